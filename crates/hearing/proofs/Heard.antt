@@ -1,0 +1,175 @@
+-- Hearing: a message that is spelled is heard as itself and leaves none open, and what is heard is a message. By the laws of a word
+-- that opens, adds or closes, carried over the characters of a message. Assumes nothing.
+use mathlib.Core.Path.{_≡_, refl, sym, ap, _∙_, subst}
+use mathlib.Core.Bool.{Bool, true, false, cond}
+use mathlib.Core.List.{List, [], _∷_, _++_, append-nil, append-assoc}
+use Prim.Native.Nat.{ℕ, suc, _+_, _<_, _≤_}
+use native.Mathlib.Numerals.{add-one}
+use native.Mathlib.Omega.{arith}
+use borrow.Author.Tests.{lt-ltb, ne-eqb}
+use lib.Dec.{ltb, eqb, lit<}
+use lib.ListN.{length, take, set, replicate, length-append, length-set}
+use lib.Seq.{take-suc-set}
+use Rattle.refusal.proofs.Logic.{choice}
+use Rattle.wire.specs.declared.Received.{Received}
+use Rattle.wire.specs.declared.Received.the-variants.{Character, Nothing}
+use Rattle.wire.specs.Word.{withParity, received, travelling}
+use Rattle.wire.proofs.Words.{travels, travelling-append}
+use Rattle.message.specs.declared.Message.{Message}
+use Rattle.message.specs.declared.Parsed.{Parsed}
+use Rattle.message.specs.declared.Parsed.the-variants.{Heard, Unheard}
+use Rattle.message.specs.Message.{star, isLetter, isMessage}
+use Rattle.message.specs.Scan.{parse}
+use Rattle.message.specs.Spell.{spellAddress, spellBody, spellOpen, spell}
+use Rattle.message.proofs.Messages.{Parts, parts, PlainChar, Plain, plain-letter}
+use Rattle.message.proofs.Reading.{Heard-is, parse-spell, parse-message}
+use Rattle.message.proofs.Spelling.{plain-rest, open-length}
+use Rattle.hearing.specs.declared.Pending.{Pending}
+use Rattle.hearing.specs.declared.Action.{Action}
+use Rattle.hearing.specs.declared.Action.the-variants.{Ignore, Open, Add, Close, Drop}
+use Rattle.hearing.specs.declared.Hearing.{Hearing}
+use Rattle.hearing.specs.Hearing.{most, none, added, openOf, opening, continuing, actionOf, perform, hear, before, heardFrom, openAfter, heard}
+
+-- ---- the open message as a list of characters
+
+pub record Holds (p : Pending) (cs : List ℕ) : Type 0 where
+  pub len-is : p .len ≡ length cs
+  pub open-is : openOf p ≡ cs
+  pub room : length (p .chars) ≡ most
+
+pub none-holds : Holds none []
+unfolding none openOf
+none-holds = record { len-is = refl; open-is = refl; room = refl }
+
+pub added-holds : (p : Pending) (cs : List ℕ) (c : ℕ) → Holds p cs → length cs < most → Holds (added p c) (cs ++ (c ∷ []))
+unfolding added openOf
+added-holds p cs c h l =
+    let n : p .len ≡ length cs = h .len-is in
+    let r : length (p .chars) ≡ most = h .room in
+    let in′ : p .len < length (p .chars) = omega arith in
+    subst (λ (x : Pending). Holds x (cs ++ (c ∷ [])))
+    (sym (ap (λ (b : Bool). cond b (record { chars = set (p .chars) (p .len) c; len = p .len + 1 }) none) (lt-ltb (p .len) most (omega arith))))
+    (record {
+      len-is = omega (arith, length-append cs (c ∷ []));
+      open-is =
+          ap (λ (k : ℕ). take k (set (p .chars) (p .len) c)) (add-one (p .len))
+          ∙ take-suc-set (p .chars) (p .len) c in′
+          ∙ ap (λ (l : List ℕ). l ++ (c ∷ [])) (h .open-is);
+      room = length-set (p .chars) (p .len) c ∙ r;
+    })
+
+-- ---- one word
+
+pub hear-open : (c : ℕ) → isLetter c ≡ true → hear none (withParity c) ≡ record { pending = added none c; message = Unheard }
+unfolding hear perform actionOf opening none
+hear-open c e = rw (travels c (plain-letter c e .small), e)
+
+-- a message is open
+module _ (p : Pending) (n : 1 ≤ p .len) where
+  is-open : eqb (p .len) 0 ≡ false
+  is-open = ne-eqb (p .len) 0 (λ e. omega arith)
+
+  pub hear-add : (c : ℕ) → PlainChar c → hear p (withParity c) ≡ record { pending = added p c; message = Unheard }
+  unfolding hear perform actionOf continuing
+  hear-add c q = rw (is-open, travels c (q .small), q .no-star)
+
+  pub hear-star : hear p (withParity star) ≡ record { pending = none; message = parse (openOf p) }
+  unfolding hear perform actionOf continuing
+  hear-star = rw (is-open, travels star (lit< tt))
+
+-- ---- a word, and those behind it
+
+-- after some words the messages heard and the message open are those from q on
+pub record Leads (p : Pending) (ws : List ℕ) (q : Pending) (rest : List ℕ) : Type 0 where
+  pub hears : heardFrom p ws ≡ heardFrom q rest
+  pub opens : openAfter p ws ≡ openAfter q rest
+
+then : {p q r : Pending} {xs ys zs : List ℕ} → Leads p xs q ys → Leads q ys r zs → Leads p xs r zs
+then a b = record { hears = a .hears ∙ b .hears; opens = a .opens ∙ b .opens }
+
+unheard : (p : Pending) (w : ℕ) (ws : List ℕ) (q : Pending) → hear p w ≡ record { pending = q; message = Unheard } → Leads p (w ∷ ws) q ws
+unfolding heardFrom openAfter before
+unheard p w ws q e = record {
+  hears = ap (λ (h : Hearing). before (h .message) (heardFrom (h .pending) ws)) e;
+  opens = ap (λ (h : Hearing). openAfter (h .pending) ws) e;
+}
+
+-- plain characters are added to the open message
+pub record Adds (p : Pending) (cs ds rest : List ℕ) : Type 0 where
+  pub last : Pending
+  pub holds : Holds last (cs ++ ds)
+  pub leads : Leads p (travelling ds ++ rest) last rest
+
+adds : (p : Pending) (cs ds rest : List ℕ) → Holds p cs → 1 ≤ length cs → length cs + length ds ≤ most → Plain ds → Adds p cs ds rest
+unfolding travelling
+adds p cs [] rest h o l q = record { last = p; holds = subst (Holds p) (sym (append-nil cs)) h; leads = record { hears = refl; opens = refl } }
+adds p cs (d ∷ ds) rest h o l q =
+    let k : p .len ≡ length cs = h .len-is in
+    let a = adds (added p d) (cs ++ (d ∷ [])) ds rest (added-holds p cs d h (omega arith)) (omega (arith, length-append cs (d ∷ []))) (omega (arith, length-append cs (d ∷ []))) (q .1) in
+    record {
+      last = a .last;
+      holds = subst (Holds (a .last)) (append-assoc cs (d ∷ []) ds) (a .holds);
+      leads = then (unheard p (withParity d) (travelling ds ++ rest) (added p d) (hear-add p (omega arith) d (q .0))) (a .leads);
+    }
+
+-- ---- a spelled message
+
+-- its words, the letter's and the star's apart
+words-of : (m : Message) (rest : List ℕ) → travelling (spell m) ++ rest ≡ withParity (m .letter) ∷ (travelling (spellAddress (m .address) ++ (m .identifier ∷ spellBody (m .body))) ++ (withParity star ∷ rest))
+unfolding spell spellOpen travelling
+words-of m rest =
+    let cs = spellAddress (m .address) ++ (m .identifier ∷ spellBody (m .body)) in
+    ap (λ (l : List ℕ). withParity (m .letter) ∷ (l ++ rest)) (travelling-append cs (star ∷ []))
+    ∙ ap (λ (l : List ℕ). withParity (m .letter) ∷ l) (append-assoc (travelling cs) (withParity star ∷ []) rest)
+
+-- the letter opens, the characters behind it are added, and the star closes
+pub record Spelled (m : Message) (rest : List ℕ) : Type 0 where
+  pub hears : heardFrom none (travelling (spell m) ++ rest) ≡ m ∷ heardFrom none rest
+  pub opens : openAfter none (travelling (spell m) ++ rest) ≡ openAfter none rest
+
+pub spelled : (m : Message) (rest : List ℕ) → isMessage m ≡ true → Spelled m rest
+unfolding heardFrom openAfter before spellOpen
+spelled m rest e =
+    let p = parts m e in
+    let cs = spellAddress (m .address) ++ (m .identifier ∷ spellBody (m .body)) in
+    let ends = withParity star ∷ rest in
+    let opened = unheard none (withParity (m .letter)) (travelling cs ++ ends) (added none (m .letter)) (hear-open (m .letter) (p .is-letter)) in
+    let a = adds (added none (m .letter)) (m .letter ∷ []) cs ends (added-holds none [] (m .letter) none-holds (lit< tt)) (omega arith) (omega (arith, open-length m)) (plain-rest m p) in
+    let q = a .last in
+    let n : q .len ≡ length (m .letter ∷ cs) = a .holds .len-is in
+    let l = then opened (a .leads) in
+    let s : hear q (withParity star) ≡ record { pending = none; message = Heard m }
+    = hear-star q (omega arith) ∙ ap (λ (x : Parsed). record { pending = none; message = x }) (ap parse (a .holds .open-is) ∙ parse-spell m e) in
+    record {
+      hears = ap (heardFrom none) (words-of m rest) ∙ l .hears ∙ ap (λ (h : Hearing). before (h .message) (heardFrom (h .pending) rest)) s;
+      opens = ap (openAfter none) (words-of m rest) ∙ l .opens ∙ ap (λ (h : Hearing). openAfter (h .pending) rest) s;
+    }
+
+-- ---- what is heard is a message
+
+performed : (p : Pending) (a : Action) → Heard-is (perform p a .message)
+unfolding perform
+performed p Ignore = tt
+performed p (Open c) = tt
+performed p (Add c) = tt
+performed p Close = parse-message (openOf p)
+performed p Drop = tt
+
+pub hear-message : (p : Pending) (w : ℕ) → Heard-is (hear p w .message)
+unfolding hear
+hear-message p w = performed p (actionOf p w)
+
+abbrev pub Messages : List Message → Type 0
+Messages [] = Unit {0}
+Messages (m ∷ ms) = (isMessage m ≡ true) × Messages ms
+
+messages-before : (o : Parsed) (ms : List Message) → Heard-is o → Messages ms → Messages (before o ms)
+unfolding before
+messages-before (Heard m) ms e h = (e, h)
+messages-before Unheard ms e h = h
+
+pub heard-messages : (p : Pending) (ws : List ℕ) → Messages (heardFrom p ws)
+unfolding heardFrom
+heard-messages p [] = tt
+heard-messages p (w ∷ ws) =
+    messages-before (hear p w .message) (heardFrom (hear p w .pending) ws) (hear-message p w) (heard-messages (hear p w .pending) ws)

@@ -1,0 +1,30 @@
+-- `hearing::count_of` meets its contract: the arm taken says what was heard. Assumes nothing.
+use mathlib.Core.Path.{_≡_, sym, ap, _∙_}
+use lib.ListN.{length}
+use Rattle.wire.proofs.Words.{travelling-length}
+use Rattle.message.specs.declared.Parsed.{Parsed}
+use Rattle.hearing.specs.Normal.{worth}
+use borrow.Author.Needs.{needs}
+use Rattle.hearing.proofs.count_of.Statement.{statement}
+use Rattle.hearing.proofs.count_of.Tie as tie
+
+enum-known-message : tie.Need-enum-known-message
+enum-known-message c = search needs
+
+enum-told : tie.Need-enum-told
+enum-told c = search needs
+
+returns : tie.Need-returns
+unfolding worth
+returns c = rw (c .enum-told .given .1)
+
+spelled-len-requires : tie.Need-spelled-len-requires
+spelled-len-requires c κs = search needs
+
+returns-2 : tie.Need-returns-2
+unfolding worth
+returns-2 c = c .spelled-len .ensures ∙ sym (ap (λ (m : Parsed). length (worth m)) (c .before .before .message .given .1) ∙ travelling-length _)
+
+pub count-of-spec : {M : Type 1} → statement M
+count-of-spec =
+    tie.close (tie.spec enum-known-message enum-told returns spelled-len-requires returns-2)

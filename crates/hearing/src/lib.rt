@@ -1,0 +1,248 @@
+// Hearing: what a word does to the open message, and the normal form of a recording.
+ghost use mathlib.Core.Path.{_≡_};
+ghost use Prim.Native.Nat.{_+_, _≤_};
+ghost use lib.ListN.{length};
+ghost use Rattle.refusal.specs.Refusal.{outcomeOf};
+ghost use Rattle.refusal.specs.Call.{laid};
+ghost use Rattle.wire.specs.Line.{placed};
+ghost use Rattle.hearing.specs.Hearing.{none, added, openOf, opening, continuing, actionOf, perform, hear};
+ghost use Rattle.hearing.specs.Normal.{worth, normal, normalCall, countOf};
+ghost use Rattle.message.specs.Scan.{parse};
+use message::Message;
+use message::Parsed;
+use refusal::Refusal;
+use refusal::Written;
+use wire::Received;
+
+// An open message holds at most this many characters before its `*`.
+pub const MOST: usize = 10;
+
+// The open message: `len` characters and 0 behind them; none is open where `len` is 0.
+pub struct Pending {
+    pub chars: [u8; MOST],
+    pub len: usize,
+}
+
+// What a word does to the open message.
+pub enum Action {
+    Ignore,
+    Open(u8),
+    Add(u8),
+    Close,
+    Drop,
+}
+
+// The open message after a word, and the message that the word has closed, if it is heard.
+pub struct Hearing {
+    pub pending: Pending,
+    pub message: Parsed,
+}
+
+impl Pending {
+    // No message open.
+    pub fn new() -> Pending
+        ensures { λ r. ⌜ r ≡ none ⌝ }
+    {
+        let chars = [0u8; MOST];
+        Pending { chars, len: 0 }
+    }
+
+    // One character more; an eleventh drops the message.
+    pub fn add(self, c: u8) -> Pending
+        ensures { λ r. ⌜ r ≡ added self c ⌝ }
+    {
+        let len = self.len;
+        if MOST <= len {
+            return Pending::new();
+        }
+        let mut chars = self.chars;
+        chars[len] = c;
+        let next = len + 1;
+        Pending { chars, len: next }
+    }
+
+    // The message that the open characters are.
+    pub fn close(self) -> Parsed
+        ensures { λ r. ⌜ r ≡ parse (openOf self) ⌝ }
+    {
+        let chars = self.chars;
+        let len = self.len;
+        if MOST <= len {
+            return message::parse(&chars);
+        }
+        message::parse(&chars[..len])
+    }
+
+    // What a word does.
+    pub fn action(self, word: u16) -> Action
+        ensures { λ r. ⌜ r ≡ actionOf self word ⌝ }
+    {
+        let received = wire::receive(word);
+        if self.len == 0 {
+            opening(received)
+        } else {
+            continuing(received)
+        }
+    }
+}
+
+fn opening(received: Received) -> Action
+    ensures { λ r. ⌜ r ≡ opening received ⌝ }
+{
+    let Received::Character(c) = received else {
+        return Action::Ignore;
+    };
+    if message::is_letter(c) {
+        Action::Open(c)
+    } else {
+        Action::Ignore
+    }
+}
+
+fn continuing(received: Received) -> Action
+    ensures { λ r. ⌜ r ≡ continuing received ⌝ }
+{
+    let Received::Character(c) = received else {
+        return Action::Drop;
+    };
+    if c == b'*' {
+        Action::Close
+    } else {
+        Action::Add(c)
+    }
+}
+
+// What a word does, done.
+pub fn hear(pending: Pending, word: u16) -> Hearing
+    ensures { λ r. ⌜ r ≡ hear pending word ⌝ }
+{
+    let action = pending.action(word);
+    let unheard = Parsed::Unheard;
+    match action {
+        Action::Ignore => Hearing {
+            pending,
+            message: unheard,
+        },
+        Action::Open(c) => {
+            let opened = Pending::new().add(c);
+            Hearing {
+                pending: opened,
+                message: unheard,
+            }
+        }
+        Action::Add(c) => {
+            let longer = pending.add(c);
+            Hearing {
+                pending: longer,
+                message: unheard,
+            }
+        }
+        Action::Close => {
+            let message = pending.close();
+            let pending = Pending::new();
+            Hearing { pending, message }
+        }
+        Action::Drop => {
+            let pending = Pending::new();
+            Hearing {
+                pending,
+                message: unheard,
+            }
+        }
+    }
+}
+
+// How long a normal form is, where it fits the room.
+enum Count {
+    Fits(usize),
+    TooLong,
+}
+
+// The words that a heard message has in a normal form.
+fn count_of(message: Parsed) -> usize
+    ensures { λ r. ⌜ r ≡ length (worth message) ⌝ }
+{
+    let Parsed::Heard(m) = message else {
+        return 0;
+    };
+    message::spelled_len(m)
+}
+
+// The counting pass.
+fn measure(words: &[u16], room: usize) -> Count
+    ensures { λ r. ⌜ r ≡ countOf (length (normal (now (words .entry)))) room ⌝ }
+{
+    let mut pending = Pending::new();
+    let mut n: usize = 0;
+    let mut i = 0;
+    while i < words.len() {
+        let heard = hear(pending, words[i]);
+        let message = heard.message;
+        let more = count_of(message);
+        if room - n < more {
+            return Count::TooLong;
+        }
+        n += more;
+        pending = heard.pending;
+        i += 1;
+    }
+    Count::Fits(n)
+}
+
+// The words of a heard message into the buffer from a place on, and the place behind them.
+fn put(message: Parsed, out: &mut [u16], at: usize) -> usize
+    requires { ⌜ at + length (worth message) ≤ length (now out) ⌝ }
+    ensures { λ r. ⌜ (r ≡ at + length (worth message)) × (now (out .exit) ≡ placed (worth message) at (now (out .entry))) ⌝ }
+{
+    let Parsed::Heard(m) = message else {
+        return at;
+    };
+    let line = message::spell(m);
+    let bytes = line.bytes;
+    let len = line.len;
+    copy(&bytes[..len], out, at);
+    at + len
+}
+
+fn copy(bytes: &[u8], out: &mut [u16], at: usize)
+    requires { ⌜ at + length (now bytes) ≤ length (now out) ⌝ }
+    ensures { λ _. ⌜ now (out .exit) ≡ placed (now (bytes .entry)) at (now (out .entry)) ⌝ }
+{
+    let mut k = 0;
+    while k < bytes.len() {
+        out[at + k] = bytes[k] as u16;
+        k += 1;
+    }
+}
+
+// The writing pass.
+fn fill(words: &[u16], out: &mut [u16])
+    requires { ⌜ length (normal (now words)) ≤ length (now out) ⌝ }
+    ensures { λ _. ⌜ now (out .exit) ≡ laid (normal (now (words .entry))) (now (out .entry)) ⌝ }
+{
+    let mut pending = Pending::new();
+    let mut at = 0;
+    let mut i = 0;
+    while i < words.len() {
+        let heard = hear(pending, words[i]);
+        let message = heard.message;
+        at = put(message, out, at);
+        pending = heard.pending;
+        i += 1;
+    }
+}
+
+// The normal form of a recording.
+pub fn normal_form(words: &[u16], out: &mut [u16]) -> Written
+    ensures answers { λ r. ⌜ outcomeOf r ≡ normalCall (now (words .entry)) (now (out .entry)) .outcome ⌝ }
+    ensures leaves { λ r. ⌜ now (out .exit) ≡ normalCall (now (words .entry)) (now (out .entry)) .buffer ⌝ }
+{
+    if !wire::valid_words(words) {
+        return Written::Refused(Refusal::WordAbove256);
+    }
+    let Count::Fits(n) = measure(words, out.len()) else {
+        return Written::Refused(Refusal::RoomTooShort);
+    };
+    fill(words, out);
+    Written::Wrote(n)
+}

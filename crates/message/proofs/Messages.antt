@@ -1,0 +1,71 @@
+-- What the parts of a message are: laws of the tests, for whoever has a message or makes one. Assumes nothing.
+use mathlib.Core.Path.{_≡_, refl, sym, ap, _∙_, subst}
+use mathlib.Core.Bool.{Bool, true, false, not, _&&_, _||_}
+use mathlib.Core.List.{List, [], _∷_, _++_}
+use Prim.Native.Nat.{ℕ, _<_, _≤_}
+use native.Mathlib.Omega.{arith}
+use borrow.Author.Tests.{leb-true, eqb-true, ne-eqb}
+use lib.Dec.{leb, eqb}
+use Rattle.refusal.proofs.Logic.{ands, and-both, not-is, or-cases}
+use Rattle.number.specs.Data.{isDigit}
+use Rattle.number.proofs.Digits.{digit-ends}
+use Rattle.message.specs.declared.Message.{Message}
+use Rattle.message.specs.Message.{star, isLetter, isAddress, isIdentifier, fitsBody, isMessage}
+
+-- a message as heard, by its parts
+pub record Parts (m : Message) : Type 0 where
+  pub is-letter : isLetter (m .letter) ≡ true
+  pub is-address : isAddress (m .address) ≡ true
+  pub is-identifier : isIdentifier (m .identifier) ≡ true
+  pub fits-body : fitsBody (m .identifier) (m .body) ≡ true
+
+pub parts : (m : Message) → isMessage m ≡ true → Parts m
+unfolding isMessage
+parts m e = record { is-letter = search ands; is-address = search ands; is-identifier = search ands; fits-body = search ands }
+
+pub whole : (m : Message) → Parts m → isMessage m ≡ true
+unfolding isMessage
+whole m p = and-both (and-both (and-both (p .is-letter) (p .is-address)) (p .is-identifier)) (p .fits-body)
+
+pub address-least : (a : ℕ) → isAddress a ≡ true → 1 ≤ a
+unfolding isAddress
+address-least a e = leb-true 1 a (search ands)
+
+pub address-most : (a : ℕ) → isAddress a ≡ true → a ≤ 99
+unfolding isAddress
+address-most a e = leb-true a 99 (search ands)
+
+pub identifier-no-digit : (i : ℕ) → isIdentifier i ≡ true → isDigit i ≡ false
+unfolding isIdentifier
+identifier-no-digit i e = not-is {a = isDigit i} (search ands)
+
+-- ---- characters that can stand before the `*`: seven bits, and no `*`
+
+pub record PlainChar (c : ℕ) : Type 0 where
+  pub small : c < 128
+  pub no-star : eqb c star ≡ false
+
+abbrev pub Plain : List ℕ → Type 0
+Plain [] = Unit {0}
+Plain (c ∷ cs) = PlainChar c × Plain cs
+
+pub plain-append : (xs ys : List ℕ) → Plain xs → Plain ys → Plain (xs ++ ys)
+plain-append [] ys p q = q
+plain-append (x ∷ xs) ys p q = (p .0, plain-append xs ys (p .1) q)
+
+plain-char : (c : ℕ) → c < 128 → (c ≡ 42 → ⊥) → PlainChar c
+plain-char c h f = record { small = h; no-star = ne-eqb c 42 f }
+
+pub plain-letter : (c : ℕ) → isLetter c ≡ true → PlainChar c
+unfolding isLetter
+plain-letter c e =
+    or-cases (eqb c 76) (eqb c 82) e
+    (λ t. let q = eqb-true c 76 t in plain-char c (omega arith) (λ s. omega arith))
+    (λ t. let q = eqb-true c 82 t in plain-char c (omega arith) (λ s. omega arith))
+
+pub plain-digit : (c : ℕ) → isDigit c ≡ true → PlainChar c
+plain-digit c e = let h = digit-ends c e in plain-char c (omega arith) (λ s. omega arith)
+
+pub plain-identifier : (c : ℕ) → isIdentifier c ≡ true → PlainChar c
+unfolding isIdentifier
+plain-identifier c e = record { small = omega (arith, leb-true c 126 (search ands)); no-star = not-is {a = eqb c star} (search ands) }

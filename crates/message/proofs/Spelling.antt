@@ -1,0 +1,114 @@
+-- What a message is spelled with: characters of seven bits other than `*`, at most ten of them, and then the `*`.
+-- Assumes nothing.
+use mathlib.Core.Path.{_≡_, refl, sym, ap, _∙_}
+use mathlib.Core.Bool.{Bool, true, false}
+use mathlib.Core.List.{List, [], _∷_, _++_}
+use Prim.Native.Nat.{ℕ, _+_, _/_, _%_, _<_, _≤_}
+use native.Mathlib.Omega.{arith}
+use borrow.Author.Tests.{leb-true}
+use lib.Dec.{leb, lit<, lit≤}
+use lib.IntN.{ℤ}
+use lib.ListN.{length, length-append}
+use Rattle.refusal.proofs.Logic.{ands, choice}
+use Rattle.refusal.specs.Call.{writes, refuses}
+use Rattle.refusal.specs.declared.Refusal.the-variants.{NotMessage}
+use Rattle.wire.specs.declared.Line.{Line}
+use Rattle.wire.specs.Word.{travelling}
+use Rattle.wire.specs.Line.{empty, put, puts, lineOf}
+use Rattle.wire.proofs.Lines.{puts-append, puts-empty}
+use Rattle.number.specs.Data.{digit, spellData}
+use Rattle.number.proofs.Digits.{digit-is, AllDigits, data-length, data-digits}
+use Rattle.message.specs.declared.Body.{Body}
+use Rattle.message.specs.declared.Body.the-variants.{Status, Query, Up, Down, Set, Store}
+use Rattle.message.specs.declared.Message.{Message}
+use Rattle.message.specs.Message.{star, isAddress, isMessage}
+use Rattle.message.specs.Spell.{spellAddress, spellBody, spellOpen, spell, writeCall}
+use Rattle.message.proofs.Messages.{Parts, PlainChar, Plain, plain-append, plain-digit, plain-identifier, address-most}
+
+-- ---- its characters
+
+plain-digits : (cs : List ℕ) → AllDigits cs → Plain cs
+plain-digits [] h = tt
+plain-digits (c ∷ cs) h = (plain-digit c (h .0), plain-digits cs (h .1))
+
+pub plain-address : (a : ℕ) → isAddress a ≡ true → Plain (spellAddress a)
+unfolding spellAddress
+plain-address a e =
+    let h = address-most a e in
+    choice Plain (leb a 9)
+    (λ t. (plain-digit (digit a) (digit-is a (leb-true a 9 t)), tt))
+    (λ t. (plain-digit (digit (a / 10)) (digit-is (a / 10) (omega arith)), (plain-digit (digit (a % 10)) (digit-is (a % 10) (omega arith)), tt)))
+
+plain-body : (b : Body) → Plain (spellBody b)
+unfolding spellBody
+plain-body Status = (record { small = lit< tt; no-star = refl }, tt)
+plain-body Query = (record { small = lit< tt; no-star = refl }, tt)
+plain-body Up = (record { small = lit< tt; no-star = refl }, tt)
+plain-body Down = (record { small = lit< tt; no-star = refl }, tt)
+plain-body (Set n d) = (record { small = lit< tt; no-star = refl }, plain-digits (spellData n d) (data-digits n d))
+plain-body Store = (record { small = lit< tt; no-star = refl }, tt)
+
+-- behind the letter
+pub plain-rest : (m : Message) → Parts m → Plain (spellAddress (m .address) ++ (m .identifier ∷ spellBody (m .body)))
+plain-rest m p =
+    plain-append (spellAddress (m .address)) (m .identifier ∷ spellBody (m .body)) (plain-address (m .address) (p .is-address))
+    (plain-identifier (m .identifier) (p .is-identifier), plain-body (m .body))
+
+-- ---- its length, whatever it is
+
+pub address-length : (a : ℕ) → length (spellAddress a) ≤ 2
+unfolding spellAddress
+address-length a = choice (λ (x : List ℕ). length x ≤ 2) (leb a 9) (λ t. lit≤ tt) (λ t. lit≤ tt)
+
+pub body-length : (b : Body) → length (spellBody b) ≤ 6
+unfolding spellBody
+body-length Status = lit≤ tt
+body-length Query = lit≤ tt
+body-length Up = lit≤ tt
+body-length Down = lit≤ tt
+body-length (Set n d) = omega (arith, data-length n d)
+body-length Store = lit≤ tt
+
+pub set-length : (n : ℤ) (d : ℕ) → length (spellBody (Set n d)) ≡ 6
+unfolding spellBody
+set-length n d = omega (arith, data-length n d)
+
+-- letter, identifier and `*` stand beside the address and the body
+pub spell-parts : (m : Message) → length (spell m) ≡ length (spellAddress (m .address)) + length (spellBody (m .body)) + 3
+unfolding spell spellOpen
+spell-parts m =
+    omega (arith, length-append (spellOpen m) (star ∷ []), length-append (spellAddress (m .address)) (m .identifier ∷ spellBody (m .body)))
+
+pub open-length : (m : Message) → length (spellOpen m) ≤ 10
+unfolding spellOpen
+open-length m = omega (arith, length-append (spellAddress (m .address)) (m .identifier ∷ spellBody (m .body)), address-length (m .address), body-length (m .body))
+
+pub spell-length : (m : Message) → length (spell m) ≤ 11
+unfolding spell
+spell-length m = omega (arith, length-append (spellOpen m) (star ∷ []), open-length m)
+
+-- ---- the line of a message, put part by part: l₀ is empty, and each of the others has one part more
+
+pub spelled-line : (m : Message) (l₀ l₁ l₂ l₃ l₄ l₅ : Line) → l₀ ≡ empty → l₁ ≡ put l₀ (m .letter) → l₂ ≡ puts l₁ (spellAddress (m .address)) → l₃ ≡ put l₂ (m .identifier)
+    → l₄ ≡ puts l₃ (spellBody (m .body)) → l₅ ≡ put l₄ star → l₅ ≡ lineOf (spell m)
+unfolding spell spellOpen puts
+spelled-line m l₀ l₁ l₂ l₃ l₄ l₅ e₀ e₁ e₂ e₃ e₄ e₅ =
+    let a = spellAddress (m .address) in
+    let b = spellBody (m .body) in
+    let behind : puts l₁ (a ++ (m .identifier ∷ b)) ≡ l₄
+    = puts-append l₁ a (m .identifier ∷ b) ∙ ap (λ (l : Line). puts (put l (m .identifier)) b) (sym e₂) ∙ ap (λ (l : Line). puts l b) (sym e₃) ∙ sym e₄ in
+    e₅
+    ∙ ap (λ (l : Line). put l star) (sym behind)
+    ∙ sym (puts-append l₁ (a ++ (m .identifier ∷ b)) (star ∷ []))
+    ∙ ap (λ (l : Line). puts l ((a ++ (m .identifier ∷ b)) ++ (star ∷ []))) (e₁ ∙ ap (λ (l : Line). put l (m .letter)) e₀)
+    ∙ puts-empty (spell m) (spell-length m)
+
+-- ---- the call
+
+pub write-refused : (m : Message) (out : List ℕ) → isMessage m ≡ false → writeCall m out ≡ refuses NotMessage out
+unfolding writeCall
+write-refused m out e = rw e
+
+pub write-served : (m : Message) (out : List ℕ) → isMessage m ≡ true → writeCall m out ≡ writes (travelling (spell m)) out
+unfolding writeCall
+write-served m out e = rw e

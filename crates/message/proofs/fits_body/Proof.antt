@@ -1,0 +1,73 @@
+-- `message::fits_body` meets its contract: the arm taken says which body it is. Assumes nothing.
+use mir.Syntax.{w32}
+use mir.Val.{SFits}
+use Rattle.number.proofs.Signed.{rd-is}
+use Rattle.message.specs.Message.{fitsBody}
+use borrow.Author.Needs.{needs}
+use Rattle.message.proofs.fits_body.Statement.{statement}
+use Rattle.message.proofs.fits_body.Tie as tie
+
+enum-told : tie.Need-enum-told
+enum-told c = search needs
+
+enum-told-2 : tie.Need-enum-told-2
+enum-told-2 c = search needs
+
+enum-told-3 : tie.Need-enum-told-3
+enum-told-3 c = search needs
+
+enum-told-4 : tie.Need-enum-told-4
+enum-told-4 c = search needs
+
+enum-known-body : tie.Need-enum-known-body
+enum-known-body c = search needs
+
+fits-requires : tie.Need-fits-requires
+fits-requires c κs = search needs
+
+enum-told-5 : tie.Need-enum-told-5
+enum-told-5 c = search needs
+
+returns : tie.Need-returns
+unfolding fitsBody
+returns c = rw (c .enum-told .given .1)
+
+returns-2 : tie.Need-returns-2
+unfolding fitsBody
+returns-2 c = rw (c .enum-told2 .given .1)
+
+returns-3 : tie.Need-returns-3
+unfolding fitsBody
+returns-3 c = rw (c .enum-told3 .given .1)
+
+returns-4 : tie.Need-returns-4
+unfolding fitsBody
+returns-4 c = rw (c .enum-told4 .given .1)
+
+returns-5 : tie.Need-returns-5
+unfolding fitsBody
+returns-5 c =
+    let f : SFits w32 (c .before .before .body .given .0 .0) = record { sfits = c .before .known-told .given .0 .1 } in
+    rw (c .before .before .body .given .1) (simp (c .fits2 .ensures, rd-is f))
+
+returns-6 : tie.Need-returns-6
+unfolding fitsBody
+returns-6 c = rw (c .enum-told5 .given .1)
+
+pub fits-body-spec : {M : Type 1} → statement M
+fits-body-spec =
+    tie.close
+    (tie.spec
+    enum-told
+    enum-told-2
+    enum-told-3
+    enum-told-4
+    enum-known-body
+    fits-requires
+    enum-told-5
+    returns
+    returns-2
+    returns-3
+    returns-4
+    returns-5
+    returns-6)

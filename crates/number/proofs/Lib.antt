@@ -1,0 +1,6 @@
+pub mod Signed
+pub mod Digits
+pub mod Reading
+pub mod Cuts
+pub mod Remainder
+pub mod Cases

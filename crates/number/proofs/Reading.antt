@@ -1,0 +1,286 @@
+-- Data written and read, for every count of decimals at once. What is written is read as it was, since four last digits make
+-- the number again; what is read so far is always the last digits of its value (`Read`, kept by each character), so what
+-- is read to the end fits, and is written as the same characters unless they were minus zero. Assumes nothing.
+use mathlib.Core.Path.{_≡_, refl, sym, ap, ap₂, _∙_, subst}
+use mathlib.Core.Bool.{true, _&&_}
+use mathlib.Core.List.{List, [], _∷_, _++_, append-assoc, append-nil}
+use Prim.Native.Nat.{ℕ, zero, suc, _+_, _-_, _*_, _/_, _%_, _^_, _≤_, _<_}
+use native.Mathlib.Nat.{pow-suc, pow-le-pow-right}
+use native.Mathlib.Numerals.{add-one}
+use native.Mathlib.Omega.{arith}
+use borrow.Author.Tests.{leb-true, le-leb, lt-leb, ltb-true, ltb-false, lt-ltb}
+use lib.Dec.{ltb, leb, lit≤}
+use lib.IntN.{ℤ, pos, negsuc, negℤ, natAbs}
+use lib.ListN.{length, getD}
+use Rattle.refusal.proofs.Logic.{and-left, and-right, and-both, choice}
+use Rattle.number.specs.declared.Data.{Data}
+use Rattle.number.specs.declared.Data.the-variants.{Partial, Number, Invalid}
+use Rattle.number.specs.Data.{digit, isDigit, digitOf, fits, codeOf, fiveDigits, spellData, decode, start, next, readFrom, readData}
+use Rattle.number.proofs.Signed.{natAbs-minus}
+use Rattle.number.proofs.Digits.{digit-is, digit-back, digit-below, digit-again, AllDigits}
+
+-- ---- what fits
+
+pub fits-within : (n : ℤ) (d : ℕ) → fits n d ≡ true → (natAbs n ≤ 9999) × (d ≤ 3)
+unfolding fits
+fits-within n d e =
+    (leb-true (natAbs n) 9999 (and-left (leb (natAbs n) 9999) (leb d 3) e), leb-true d 3 (and-right (leb (natAbs n) 9999) (leb d 3) e))
+
+pub within-fits : (n : ℤ) (d : ℕ) → natAbs n ≤ 9999 → d ≤ 3 → fits n d ≡ true
+unfolding fits
+within-fits n d h k = and-both (le-leb (natAbs n) 9999 h) (le-leb d 3 k)
+
+-- ---- one character more
+
+-- a digit behind fewer than four digits, and the code behind four
+pub next-digit : (k n c : ℕ) → isDigit c ≡ true → n ≤ 9999 → k < 4 → next (Partial k n) c ≡ Partial (k + 1) (n * 10 + digitOf c)
+unfolding next
+next-digit k n c e h l = simp (e, le-leb n 9999 h, lt-ltb k 4 l)
+
+pub next-code : (n c : ℕ) → isDigit c ≡ true → n ≤ 9999 → next (Partial 4 n) c ≡ decode n (digitOf c)
+unfolding next
+next-code n c e h = simp (e, le-leb n 9999 h)
+
+pub decode-pos : (m d : ℕ) → d ≤ 3 → decode m d ≡ Number (pos m) d
+unfolding decode
+decode-pos m d h = simp (le-leb d 3 h)
+
+pub decode-neg : (m d : ℕ) → d ≤ 3 → decode m (d + 5) ≡ Number (negℤ (pos m)) d
+unfolding decode
+decode-neg m d h =
+    simp (lt-leb (d + 5) 3 (omega arith), le-leb 5 (d + 5) (omega arith), le-leb (d + 5) 8 (omega arith))
+    (ap (Number (negℤ (pos m))) (back d))
+  where
+    back : (d : ℕ) → d + 5 - 5 ≡ d
+    back d = omega arith
+
+-- ---- read what is written
+
+step : (k n a : ℕ) {m : ℕ} → a ≤ 9 → n ≤ 9999 → k < 4 → n * 10 + a ≡ m → next (Partial k n) (digit a) ≡ Partial (k + 1) m
+step k n a ha h l e =
+    next-digit k n (digit a) (digit-is a ha) h l ∙ ap (Partial (k + 1)) (ap (λ (j : ℕ). n * 10 + j) (digit-back a) ∙ e)
+
+-- five digits are read as the code of the number that the first four make
+read-five : (a b c d e : ℕ) → a ≤ 9 → b ≤ 9 → c ≤ 9 → d ≤ 9 → e ≤ 9
+    → readData (digit a ∷ digit b ∷ digit c ∷ digit d ∷ digit e ∷ []) ≡ decode (((a * 10 + b) * 10 + c) * 10 + d) e
+unfolding readData readFrom
+read-five a b c d e ha hb hc hd he =
+    simp (
+      step 0 0 a {m = a} ha (lit≤ tt) (omega arith) (omega arith),
+      step 1 a b hb (omega arith) (omega arith) refl,
+      step 2 (a * 10 + b) c hc (omega arith) (omega arith) refl,
+      step 3 ((a * 10 + b) * 10 + c) d hd (omega arith) (omega arith) refl,
+      next-code (((a * 10 + b) * 10 + c) * 10 + d) (digit e) (digit-is e he) (omega arith),
+      digit-back,
+    )
+
+read-code : (m k : ℕ) → m ≤ 9999 → k ≤ 9 → readData (fiveDigits m k) ≡ decode m k
+unfolding fiveDigits
+read-code m k h l =
+    read-five (m / 10 / 10 / 10 % 10) (m / 10 / 10 % 10) (m / 10 % 10) (m % 10) (k % 10)
+    (omega arith) (omega arith) (omega arith) (omega arith) (omega arith)
+    ∙ ap₂ decode (again m h) (same k l)
+  where
+    again : (m : ℕ) → m ≤ 9999 → ((m / 10 / 10 / 10 % 10 * 10 + m / 10 / 10 % 10) * 10 + m / 10 % 10) * 10 + m % 10 ≡ m
+    again m h = omega arith
+
+    same : (k : ℕ) → k ≤ 9 → k % 10 ≡ k
+    same k l = omega arith
+
+-- reading what is written gives the number and its decimals
+pub read-written : (n : ℤ) (d : ℕ) → fits n d ≡ true → readData (spellData n d) ≡ Number n d
+unfolding spellData codeOf
+read-written (pos n) d e =
+    let w = fits-within (pos n) d e in read-code n d (w .0) (omega (arith, w .1)) ∙ decode-pos n d (w .1)
+read-written (negsuc n) d e =
+    let w = fits-within (negsuc n) d e in
+    read-code (suc n) (d + 5) (w .0) (omega (arith, w .1)) ∙ decode-neg (suc n) d (w .1)
+
+-- two numbers that are written alike are the same, decimals too
+pub spell-injective : (n m : ℤ) (d e : ℕ) → fits n d ≡ true → fits m e ≡ true → spellData n d ≡ spellData m e → (n ≡ m) × (d ≡ e)
+spell-injective n m d e p q h =
+    let same : Number n d ≡ Number m e = sym (read-written n d p) ∙ ap readData h ∙ read-written m e q in
+    (cc, cc)
+
+-- ---- what has been read
+
+-- the last k digits of n
+abbrev pub lastDigits : ℕ → ℕ → List ℕ
+lastDigits zero n = []
+lastDigits (suc k) n = lastDigits k (n / 10) ++ digit (n % 10) ∷ []
+
+-- x is what the characters cs read as: their value so far, or a number that is written as cs again unless that was minus zero
+abbrev pub Read : List ℕ → Data → Type 0
+Read cs (Partial k n) = (k ≤ 4) × (n < 10 ^ k) × (cs ≡ lastDigits k n)
+Read cs (Number n d) = (fits n d ≡ true) × ((n ≡ pos 0 → digitOf (getD cs 4 0) ≤ 3) → spellData n d ≡ cs)
+Read cs Invalid = Unit {0}
+
+small : (k n : ℕ) → k ≤ 4 → n < 10 ^ k → n ≤ 9999
+small k n h l = let p : 10 ^ k ≤ 10 ^ 4 = pow-le-pow-right (lit≤ tt) h in omega arith
+
+ten-more : (k : ℕ) → 10 ^ (k + 1) ≡ 10 ^ k * 10
+ten-more k = ap (λ (j : ℕ). 10 ^ j) (add-one k) ∙ pow-suc 10 k
+
+-- a digit more
+longer : (cs : List ℕ) (k n c : ℕ) → isDigit c ≡ true → n < 10 ^ k → cs ≡ lastDigits k n → k < 4 → Read (cs ++ c ∷ []) (Partial (k + 1) (n * 10 + digitOf c))
+longer cs k n c e l q h =
+    let b : digitOf c ≤ 9 = digit-below c e in
+    let p : 10 ^ (k + 1) ≡ 10 ^ k * 10 = ten-more k in
+    let front : n ≡ (n * 10 + digitOf c) / 10 = omega arith in
+    let last : digitOf c ≡ (n * 10 + digitOf c) % 10 = omega arith in (
+      omega arith,
+      omega arith,
+      ap₂ (λ (xs : List ℕ) (y : ℕ). xs ++ y ∷ []) (q ∙ ap (lastDigits k) front) (sym (digit-again c e) ∙ ap digit last)
+          ∙ ap (λ (j : ℕ). lastDigits j (n * 10 + digitOf c)) (sym (add-one k)),
+    )
+
+-- the code
+five-are : (n c : ℕ) → isDigit c ≡ true → fiveDigits n (digitOf c) ≡ lastDigits 4 n ++ c ∷ []
+unfolding fiveDigits
+five-are n c e =
+    let b : digitOf c ≤ 9 = digit-below c e in
+    let same : digitOf c % 10 ≡ digitOf c = omega arith in
+    ap (λ (y : ℕ). lastDigits 4 n ++ y ∷ []) (ap digit same ∙ digit-again c e)
+
+below : (n k : ℕ) → 5 ≤ k → (n ≡ 0 → k ≤ 3) → spellData (negℤ (pos n)) (k - 5) ≡ fiveDigits n k
+unfolding spellData codeOf
+below zero k h z = absurd (never (z refl) h)
+  where
+    never : k ≤ 3 → 5 ≤ k → ⊥
+    never p q = omega arith
+below (suc n) k h z = ap (fiveDigits (suc n)) (omega arith)
+
+coded : (n c : ℕ) → isDigit c ≡ true → n ≤ 9999 → Read (lastDigits 4 n ++ c ∷ []) (decode n (digitOf c))
+unfolding decode spellData codeOf
+coded n c e h =
+    choice (Read (lastDigits 4 n ++ c ∷ [])) (leb (digitOf c) 3)
+    (λ t. (within-fits (pos n) (digitOf c) h (leb-true (digitOf c) 3 t), λ z. five-are n c e))
+    (λ t.
+    choice (Read (lastDigits 4 n ++ c ∷ [])) (leb 5 (digitOf c) && leb (digitOf c) 8)
+    (λ u.
+    let low : 5 ≤ digitOf c = leb-true 5 (digitOf c) (and-left (leb 5 (digitOf c)) (leb (digitOf c) 8) u) in
+    let high : digitOf c ≤ 8 = leb-true (digitOf c) 8 (and-right (leb 5 (digitOf c)) (leb (digitOf c) 8) u) in (
+      within-fits (negℤ (pos n)) (digitOf c - 5) (omega (arith, natAbs-minus (pos n))) (omega arith),
+      λ z. below n (digitOf c) low (λ o. z (ap (λ (m : ℕ). negℤ (pos m)) o)) ∙ five-are n c e,
+    ))
+    (λ u. tt))
+
+-- each character keeps it
+pub next-read : (cs : List ℕ) (x : Data) (c : ℕ) → Read cs x → Read (cs ++ c ∷ []) (next x c)
+unfolding next
+next-read cs (Partial k n) c r =
+    choice (Read (cs ++ c ∷ [])) (isDigit c && leb n 9999)
+    (λ t.
+    let e = and-left (isDigit c) (leb n 9999) t in
+    choice (Read (cs ++ c ∷ [])) (ltb k 4)
+    (λ u. longer cs k n c e (r .1) (r .2) (ltb-true k 4 u))
+    (λ u.
+    let four : k ≡ 4 = omega (arith, r .0, ltb-false k 4 u) in
+    let q : cs ≡ lastDigits 4 n = r .2 ∙ ap (λ (j : ℕ). lastDigits j n) four in
+    subst (λ (xs : List ℕ). Read (xs ++ c ∷ []) (decode n (digitOf c))) (sym q) (coded n c e (small k n (r .0) (r .1)))))
+    (λ t. tt)
+next-read cs (Number n d) c r = tt
+next-read cs Invalid c r = tt
+
+read-from : (cs ds : List ℕ) (x : Data) → Read cs x → Read (cs ++ ds) (readFrom x ds)
+unfolding readFrom
+read-from cs [] x r = rw append-nil r
+read-from cs (d ∷ ds) x r = rw append-assoc at (read-from (cs ++ d ∷ []) ds (next x d) (next-read cs x d r))
+
+pub read-is : (cs : List ℕ) → Read cs (readData cs)
+unfolding readData
+read-is cs = read-from [] cs start (lit≤ tt, omega arith, refl)
+
+-- what is read fits
+pub read-fits : (cs : List ℕ) (n : ℤ) (d : ℕ) → readData cs ≡ Number n d → fits n d ≡ true
+read-fits cs n d e = subst (Read cs) e (read-is cs) .0
+
+-- what is read is written as the same characters, unless they are minus zero: a zero whose code is not one of 0 to 3
+pub written-read : (cs : List ℕ) (n : ℤ) (d : ℕ) → readData cs ≡ Number n d → (n ≡ pos 0 → digitOf (getD cs 4 0) ≤ 3) → spellData n d ≡ cs
+written-read cs n d e z = subst (Read cs) e (read-is cs) .1 z
+
+-- and minus zero is never written
+pub zero-code : (d : ℕ) → fits (pos 0) d ≡ true → digitOf (getD (spellData (pos 0) d) 4 0) ≤ 3
+unfolding spellData fiveDigits codeOf
+zero-code d e =
+    omega (arith, fits-within (pos 0) d e .1, digit-back (d % 10))
+
+-- data that is not yet all there: as many digits as were counted, and those of its value
+pub partial-digits : (cs : List ℕ) (k n : ℕ) → readData cs ≡ Partial k n → (k ≤ 4) × (n < 10 ^ k) × (cs ≡ lastDigits k n)
+partial-digits cs k n e = subst (Read cs) e (read-is cs)
+
+-- ---- a list read in two parts
+
+read-parts : (x : Data) (cs ds : List ℕ) → readFrom x (cs ++ ds) ≡ readFrom (readFrom x cs) ds
+unfolding readFrom
+read-parts x [] ds = refl
+read-parts x (c ∷ cs) ds = read-parts (next x c) cs ds
+
+pub read-more : (cs ds : List ℕ) → readData (cs ++ ds) ≡ readFrom (readData cs) ds
+unfolding readData
+read-more cs ds = read-parts start cs ds
+
+-- no character makes good what is no data
+pub invalid-stays : (cs : List ℕ) → readFrom Invalid cs ≡ Invalid
+unfolding readFrom next
+invalid-stays [] = refl
+invalid-stays (c ∷ cs) = invalid-stays cs
+
+-- ---- what is partial can be completed
+
+pub record Completion (k n : ℕ) : Type 0 where
+  pub rest : List ℕ
+  pub digits : AllDigits rest
+  pub whole : k + length rest ≡ 5
+  pub number : ℤ
+  pub decimals : ℕ
+  pub reads : readFrom (Partial k n) rest ≡ Number number decimals
+
+-- by zeros, for j digits and the code
+by-zeros : (j k n : ℕ) → k + j ≡ 4 → n < 10 ^ k → Completion k n
+unfolding readFrom
+by-zeros zero k n e l =
+    let four : k ≡ 4 = omega arith in
+    record {
+      rest = digit 0 ∷ [];
+      digits = (digit-is 0 (lit≤ tt), tt);
+      whole = omega arith;
+      number = pos n;
+      decimals = 0;
+      reads =
+          ap (λ (j : ℕ). next (Partial j n) (digit 0)) four
+          ∙ next-code n (digit 0) (digit-is 0 (lit≤ tt)) (small k n (omega arith) l)
+          ∙ ap (decode n) (digit-back 0)
+          ∙ decode-pos n 0 (lit≤ tt);
+    }
+by-zeros (suc j) k n e l =
+    let p : 10 ^ (k + 1) ≡ 10 ^ k * 10 = ten-more k in
+    let r = by-zeros j (k + 1) (n * 10) (omega arith) (omega arith) in
+    record {
+      rest = digit 0 ∷ r .rest;
+      digits = (digit-is 0 (lit≤ tt), r .digits);
+      whole = one-more k (length (r .rest)) (r .whole);
+      number = r .number;
+      decimals = r .decimals;
+      reads =
+          ap (λ (x : Data). readFrom x (r .rest)) (step k n 0 (lit≤ tt) (small k n (omega arith) l) (omega arith) (omega arith)) ∙ r .reads;
+    }
+  where
+    one-more : (k m : ℕ) → k + 1 + m ≡ 5 → k + suc m ≡ 5
+    one-more k m e = omega arith
+
+pub completion : (k n : ℕ) → k ≤ 4 → n < 10 ^ k → Completion k n
+completion k n h l = by-zeros (4 - k) k n (omega arith) l
+
+pub partial-viable : (cs : List ℕ) (k n : ℕ) → readData cs ≡ Partial k n → Completion k n
+partial-viable cs k n e =
+    let p = partial-digits cs k n e in completion k n (p .0) (p .1)
+
+-- nothing follows five digits, or what is no data
+pub next-number : (n : ℤ) (d c : ℕ) → next (Number n d) c ≡ Invalid
+unfolding next
+next-number n d c = refl
+
+pub next-invalid : (c : ℕ) → next Invalid c ≡ Invalid
+unfolding next
+next-invalid c = refl

@@ -1,0 +1,16 @@
+-- `number::fits` meets its contract: the two tests are those of the definition, of the same magnitude. Assumes nothing.
+use borrow.Author.Needs.{needs}
+use Rattle.number.specs.Data.{fits}
+use Rattle.number.proofs.Signed.{rd-natAbs}
+use Rattle.number.proofs.fits.Statement.{statement}
+use Rattle.number.proofs.fits.Tie as tie
+
+magnitude-requires : tie.Need-magnitude-requires
+magnitude-requires c κs = search needs
+
+returns : tie.Need-returns
+unfolding fits
+returns c = simp (c .magnitude .ensures, rd-natAbs (c .before .fits .number))
+
+pub fits-spec : {M : Type 1} → statement M
+fits-spec = tie.close (tie.spec magnitude-requires returns)

@@ -1,0 +1,159 @@
+// Numbers with decimals: range, multiples of a step, the cut down, and the five digits of data.
+// A number is counted in units of its last decimal.
+ghost use mathlib.Core.Path.{_≡_};
+ghost use mathlib.Core.Bool.{true};
+ghost use Prim.Native.Nat.{_%_, _≤_};
+ghost use lib.IntN.{pos, natAbs};
+ghost use lib.Signed.{leZ};
+ghost use Rattle.number.specs.Number.{inRange, isMultiple, cutDown, cut};
+ghost use Rattle.number.specs.Data.{digit, isDigit, fits, codeOf, spellData, decode, next, readData};
+
+// Data as far as it has been read: fewer than five digits, all five, or something that is no data.
+pub enum Data {
+    Partial { count: u8, value: u32 },
+    Number { number: i32, decimals: u8 },
+    Invalid,
+}
+
+// The least i32 has a magnitude too: -(x + 1) is in range where -x is not.
+pub fn magnitude(x: i32) -> u32
+    ensures { λ r. ⌜ r ≡ natAbs x ⌝ }
+{
+    if x < 0 {
+        (-(x + 1)) as u32 + 1
+    } else {
+        x as u32
+    }
+}
+
+// From the least to the greatest, both included.
+pub fn in_range(least: i32, x: i32, greatest: i32) -> bool
+    ensures { λ r. ⌜ r ≡ inRange least x greatest ⌝ }
+{
+    (least <= x) & (x <= greatest)
+}
+
+// A step below 1 has no multiples.
+pub fn is_multiple(x: i32, step: i32) -> bool
+    ensures { λ r. ⌜ r ≡ isMultiple x step ⌝ }
+{
+    if 1 <= step { x % step == 0 } else { false }
+}
+
+// The nearest multiple of the step that is not above x.
+fn cut_down(x: i32, step: i32) -> i32
+    requires { ⌜ (natAbs x ≤ 9999) × (natAbs step ≤ 9999) × (leZ (pos 1) step ≡ true) ⌝ }
+    ensures { λ r. ⌜ r ≡ cutDown x (natAbs step) ⌝ }
+{
+    let r = x % step;
+    if r < 0 { x - r - step } else { x - r }
+}
+
+// A number beyond four digits, or a step that no row can have, is left as it is.
+pub fn cut(x: i32, step: i32) -> i32
+    ensures { λ r. ⌜ r ≡ cut x step ⌝ }
+{
+    if in_range(-9999, x, 9999) & in_range(1, step, 9999) {
+        cut_down(x, step)
+    } else {
+        x
+    }
+}
+
+pub fn is_digit(c: u8) -> bool
+    ensures { λ r. ⌜ r ≡ isDigit c ⌝ }
+{
+    (48 <= c) & (c <= 57)
+}
+
+// What five digits can say.
+pub fn fits(number: i32, decimals: u8) -> bool
+    ensures { λ r. ⌜ r ≡ fits number decimals ⌝ }
+{
+    (magnitude(number) <= 9999) & (decimals <= 3)
+}
+
+// The character of the last digit of n.
+fn last_digit(n: u32) -> u8
+    ensures { λ r. ⌜ r ≡ digit (n % 10) ⌝ }
+{
+    48 + (n % 10) as u8
+}
+
+// The decimals, and 5 more below zero.
+fn code(number: i32, decimals: u8) -> u32
+    ensures { λ r. ⌜ r ≡ codeOf number decimals ⌝ }
+{
+    if number < 0 {
+        decimals as u32 + 5
+    } else {
+        decimals as u32
+    }
+}
+
+// Four digits of the number and the code.
+pub fn write_data(number: i32, decimals: u8) -> [u8; 5]
+    ensures { λ r. ⌜ r ≡ spellData number decimals ⌝ }
+{
+    let m = magnitude(number);
+    let a = last_digit(m / 10 / 10 / 10);
+    let b = last_digit(m / 10 / 10);
+    let c = last_digit(m / 10);
+    let d = last_digit(m);
+    let e = last_digit(code(number, decimals));
+    [a, b, c, d, e]
+}
+
+// A number of four digits with the digit of its code.
+fn decoded(m: u32, k: u8) -> Data
+    requires { ⌜ m ≤ 9999 ⌝ }
+    ensures { λ r. ⌜ r ≡ decode m k ⌝ }
+{
+    if k <= 3 {
+        let number = m as i32;
+        Data::Number {
+            number,
+            decimals: k,
+        }
+    } else if (5 <= k) & (k <= 8) {
+        let number = -(m as i32);
+        let decimals = k - 5;
+        Data::Number { number, decimals }
+    } else {
+        Data::Invalid
+    }
+}
+
+// One character more: a digit of the number, or the code behind four digits.
+pub fn next(read: Data, c: u8) -> Data
+    ensures { λ r. ⌜ r ≡ next read c ⌝ }
+{
+    let Data::Partial { count, value } = read else {
+        return Data::Invalid;
+    };
+    if is_digit(c) & (value <= 9999) {
+        let d = c - 48;
+        if count < 4 {
+            let longer = value * 10 + d as u32;
+            Data::Partial {
+                count: count + 1,
+                value: longer,
+            }
+        } else {
+            decoded(value, d)
+        }
+    } else {
+        Data::Invalid
+    }
+}
+
+// The five characters, one after the other.
+pub fn read_data(s: [u8; 5]) -> Data
+    ensures { λ r. ⌜ r ≡ readData s ⌝ }
+{
+    let a = next(Data::Partial { count: 0, value: 0 }, s[0]);
+    let b = next(a, s[1]);
+    let c = next(b, s[2]);
+    let d = next(c, s[3]);
+    next(d, s[4])
+}
