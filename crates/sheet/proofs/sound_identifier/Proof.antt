@@ -1,0 +1,65 @@
+-- `sheet::sound_identifier` meets its contract: a number from 0 to 127 is a byte, and no other is an identifier. Assumes nothing.
+use mathlib.Core.Path.{_≡_, refl, sym, ap, _∙_, subst}
+use mathlib.Core.Bool.{true, false, not, _&&_, false≢true}
+use Prim.Native.Nat.{ℕ, _≤_}
+use native.Mathlib.Omega.{arith}
+use borrow.Author.Needs.{needs}
+use borrow.Author.Tests.{leb-true, leb-false, le-leb}
+use lib.Dec.{T, eqb, leb}
+use lib.IntN.{ℤ, pos, negsuc, natAbs}
+use lib.Signed.{nonNeg}
+use mir.Syntax.{w8, w32}
+use mir.Val.{Fits}
+use Rattle.refusal.proofs.Logic.{and-right, by-test}
+use Rattle.number.specs.Number.{inRange}
+use Rattle.number.proofs.Signed.{rd-is}
+use Rattle.message.specs.Message.{isIdentifier}
+use Rattle.message.proofs.Messages.{plain-identifier}
+use Rattle.sheet.specs.Sheet.{soundIdentifier}
+use Rattle.sheet.proofs.Sheets.{sound-code}
+use Rattle.sheet.proofs.sound_identifier.Statement.{statement}
+use Rattle.sheet.proofs.sound_identifier.Tie as tie
+
+byte : (x : ℤ) → inRange (pos 0) x (pos 127) ≡ true → T (nonNeg x) × Fits w8 (natAbs x)
+unfolding inRange
+byte (pos n) e = (tt, record { fits = omega (arith, leb-true n 127 (and-right (leb 0 n) (leb n 127) e)) })
+byte (negsuc n) e = absurd (false≢true e)
+
+as-byte : (x : ℤ) → inRange (pos 0) x (pos 127) ≡ true → (isIdentifier (natAbs x) && not (eqb (natAbs x) 63)) ≡ soundIdentifier x
+unfolding inRange soundIdentifier
+as-byte (pos n) e = refl
+as-byte (negsuc n) e = absurd (false≢true e)
+
+outside : (x : ℤ) → inRange (pos 0) x (pos 127) ≡ false → false ≡ soundIdentifier x
+unfolding inRange
+outside (pos n) e =
+    by-test (soundIdentifier (pos n))
+    (λ t. absurd (omega (arith, leb-false n 127 (rw (le-leb 0 n (omega arith)) at e), plain-identifier n (sound-code n t .0) .small)))
+    sym
+outside (negsuc n) e = unfold soundIdentifier in refl
+
+in-range-requires : tie.Need-in-range-requires
+in-range-requires c κs = search needs
+
+-- what the test tells of the number
+was : (c : tie.After-in-range) → inRange (pos 0) (c .before .args .x) (pos 127) ≡ c .in-range .result
+was c = ap (λ (z : ℤ). inRange (pos 0) z (pos 127)) (sym (rd-is (c .before .fits .x))) ∙ sym (c .in-range .ensures)
+
+cast-c : tie.Need-cast-c
+cast-c c =
+    rw (rd-is (c .before .before .fits .x)) (byte (c .before .before .args .x) (was (c .before) ∙ c .if1 .taken))
+
+is-identifier-requires : tie.Need-is-identifier-requires
+is-identifier-requires c κs = search needs
+
+returns : tie.Need-returns
+returns c =
+    let s = c .before .before .before in
+    simp (c .is-identifier .ensures, rd-is (s .fits .x)) (as-byte (s .args .x) (was (c .before .before) ∙ c .before .if1 .taken))
+
+returns-2 : tie.Need-returns-2
+returns-2 c = outside (c .before .before .args .x) (was (c .before) ∙ c .if1 .left)
+
+pub sound-identifier-spec : {M : Type 1} → statement M
+sound-identifier-spec =
+    tie.close (tie.spec in-range-requires cast-c is-identifier-requires returns returns-2)

@@ -1,0 +1,3 @@
+pub mod Sheet
+pub mod Lookup
+pub mod Values
