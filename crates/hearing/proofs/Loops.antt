@@ -14,12 +14,9 @@ use Rattle.refusal.specs.Call.{laid, writes, refuses}
 use Rattle.refusal.specs.declared.Refusal.the-variants.{WordAbove256}
 use Rattle.refusal.proofs.Logic.{choice}
 use Rattle.wire.specs.Word.{validWords}
-use Rattle.wire.specs.declared.Line.{Line}
-use Rattle.wire.specs.Line.{longest, lineOf, bytesOf, placed}
-use Rattle.wire.proofs.Lines.{line-bytes, placed-paste}
+use Rattle.wire.specs.Line.{placed}
+use Rattle.wire.proofs.Lines.{placed-paste}
 use Rattle.message.specs.declared.Message.{Message}
-use Rattle.message.specs.Spell.{spell}
-use Rattle.message.proofs.Spelling.{spell-length}
 use Rattle.message.specs.declared.Parsed.{Parsed}
 use Rattle.message.specs.declared.Parsed.the-variants.{Heard, Unheard}
 use Rattle.hearing.specs.declared.Pending.{Pending}
@@ -53,16 +50,6 @@ normal-more p ws i h =
 pub normal-done : (p : Pending) (ws : List ℕ) (i : ℕ) → length ws ≤ i → normalFrom p (drop i ws) ≡ []
 unfolding normalFrom heardFrom wordsOf
 normal-done p ws i h = rw (drop-of-length-le ws h)
-
--- ---- the line of a message
-
-pub line-worth : (l : Line) (m : Message) → l ≡ lineOf (spell m) → take (l .len) (l .bytes) ≡ worth (Heard m)
-unfolding bytesOf worth
-line-worth l m e = ap bytesOf e ∙ line-bytes (spell m)
-
-pub line-fits : (l : Line) (m : Message) → l ≡ lineOf (spell m) → l .len ≤ longest
-unfolding lineOf
-line-fits l m e = subst (λ (n : ℕ). n ≤ longest) (sym (ap (λ (x : Line). x .len) e)) (spell-length m)
 
 -- ---- the counting pass
 

@@ -27,7 +27,7 @@ use Rattle.message.proofs.Messages.{Parts, PlainChar, Plain, plain-appe
 
 -- ---- its characters
 
-plain-digits : (cs : List ℕ) → AllDigits cs → Plain cs
+pub plain-digits : (cs : List ℕ) → AllDigits cs → Plain cs
 plain-digits [] h = tt
 plain-digits (c ∷ cs) h = (plain-digit c (h .0), plain-digits cs (h .1))
 

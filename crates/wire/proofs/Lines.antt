@@ -1,5 +1,5 @@
 -- A line built one character after the other holds those characters. Assumes nothing.
-use mathlib.Core.Path.{_≡_, refl, sym, ap, _∙_}
+use mathlib.Core.Path.{_≡_, refl, sym, ap, _∙_, subst}
 use mathlib.Core.Bool.{true, false, cond}
 use mathlib.Core.List.{List, [], _∷_, _++_, append-nil, append-assoc}
 use Prim.Native.Nat.{ℕ, suc, _+_, _<_, _≤_}
@@ -12,6 +12,7 @@ use lib.ListN.{length, getD, take, drop, set, replicate, length-append, length-s
 use lib.Seq.{drop-cons, set-at, append-snoc, take-append-seam, take-length, paste, paste-zero, paste-suc}
 use Rattle.refusal.specs.Refusal.{gave, refused}
 use Rattle.refusal.specs.Call.{Call, laid, writes, refuses}
+use Rattle.refusal.proofs.Calls.{laid-length}
 use Rattle.wire.specs.Word.{withParity, travelling}
 use Rattle.wire.specs.Line.{longest, empty, put, puts, lineOf, bytesOf, fitsAt, placed}
 use Rattle.wire.specs.declared.Line.{Line}
@@ -73,6 +74,17 @@ unfolding bytesOf lineOf laid
 line-bytes cs =
     ap (λ (n : ℕ). take n (travelling cs ++ drop (length (travelling cs)) (replicate longest 0))) (sym (travelling-length cs))
     ∙ take-append-seam (travelling cs) (drop (length (travelling cs)) (replicate longest 0))
+
+-- the part of the array that a line's count gives, as the code has it
+pub line-part : (l : Line) (cs : List ℕ) → l ≡ lineOf cs → take (l .len) (l .bytes) ≡ travelling cs
+unfolding bytesOf
+line-part l cs e = ap bytesOf e ∙ line-bytes cs
+
+pub line-fits : (l : Line) (cs : List ℕ) → l ≡ lineOf cs → length cs ≤ longest → l .len ≤ length (l .bytes)
+unfolding lineOf
+line-fits l cs e h =
+    subst (λ (x : Line). x .len ≤ length (x .bytes)) (sym e)
+    (omega (arith, laid-length (travelling cs) (replicate longest 0) (subst (λ (n : ℕ). n ≤ longest) (sym (travelling-length cs)) h)))
 
 -- ---- into a buffer
 

@@ -41,6 +41,11 @@ pub written-byte : (c : ℕ) → c < 256 → withParity c < 256
 unfolding ones onesIn withParity
 written-byte c h = ltb-true (withParity c) 256 (below 256 (λ (c : ℕ). ltb (withParity c) 256) refl c h)
 
+-- its seven bits are the character's
+pub written-low : (c : ℕ) → c < 128 → withParity c % 128 ≡ c
+unfolding ones onesIn withParity
+written-low c h = eqb-true (withParity c % 128) c (below 128 (λ (c : ℕ). eqb (withParity c % 128) c) refl c h)
+
 -- in good parity
 pub written-even : (c : ℕ) → c < 256 → evenParity (withParity c) ≡ true
 unfolding ones onesIn evenParity withParity

@@ -7,10 +7,10 @@ use lib.ListN.{length, take}
 use lib.Seq.{length-take-le}
 use Rattle.wire.specs.declared.Line.{Line}
 use Rattle.wire.specs.Line.{bytesOf, placed}
-use Rattle.wire.proofs.Lines.{placed-nothing}
-use Rattle.message.specs.declared.Parsed.{Parsed}
+use Rattle.wire.proofs.Lines.{placed-nothing, line-part, line-fits}
+use Rattle.message.specs.Spell.{spell}
+use Rattle.message.proofs.Spelling.{spell-length}
 use Rattle.hearing.specs.Normal.{worth}
-use Rattle.hearing.proofs.Loops.{line-worth, line-fits}
 use borrow.Author.Needs.{needs}
 use Rattle.hearing.proofs.put.Statement.{statement}
 use Rattle.hearing.proofs.put.Tie as tie
@@ -18,12 +18,11 @@ use Rattle.hearing.proofs.put.Tie as tie
 -- the line holds no more than its array, and what it holds are the words of the message
 module _ (s : tie.After-spell) where
   fit : s .spell .result .len ≤ length (s .spell .result .bytes)
-  fit =
-      let h : length (s .spell .result .bytes) ≡ 11 = search needs in
-      omega (arith, line-fits (s .spell .result) _ (s .spell .ensures))
+  fit = line-fits (s .spell .result) (spell _) (s .spell .ensures) (spell-length _)
 
   part : take (s .spell .result .len) (s .spell .result .bytes) ≡ worth (s .before .before .before .before .before .args .message)
-  part = line-worth (s .spell .result) _ (s .spell .ensures) ∙ ap worth (sym (s .before .before .message .given .1))
+  unfolding worth
+  part = line-part (s .spell .result) (spell _) (s .spell .ensures) ∙ ap worth (sym (s .before .before .message .given .1))
 
 enum-known-message : tie.Need-enum-known-message
 enum-known-message c = search needs

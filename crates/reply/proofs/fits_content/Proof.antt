@@ -1,0 +1,63 @@
+-- `reply::fits_content` meets its contract: the arms taken say what the content and the mark are. Assumes nothing.
+use mathlib.Core.Path.{_≡_, sym, ap, _∙_}
+use mir.Syntax.{w32}
+use mir.Val.{SFits}
+use Rattle.number.proofs.Signed.{rd-is}
+use Rattle.reply.specs.declared.Content.{Content}
+use Rattle.reply.proofs.Reader.{content-test}
+use Rattle.reply.specs.Reply.{fitsContent}
+use borrow.Author.Needs.{needs}
+use Rattle.reply.proofs.fits_content.Statement.{statement}
+use Rattle.reply.proofs.fits_content.Tie as tie
+
+enum-known-content : tie.Need-enum-known-content
+enum-known-content c = search needs
+
+fits-requires : tie.Need-fits-requires
+fits-requires c κs = search needs
+
+enum-told : tie.Need-enum-told
+enum-told c = search needs
+
+enum-told-2 : tie.Need-enum-told-2
+enum-told-2 c = search needs
+
+enum-told-3 : tie.Need-enum-told-3
+enum-told-3 c = search needs
+
+enum-told-4 : tie.Need-enum-told-4
+enum-told-4 c = search needs
+
+returns : tie.Need-returns
+returns c =
+    let b = c .before .before .content .given in
+    let f : SFits w32 (b .0 .0) = record { sfits = c .before .known-told .given .0 .1 } in
+    let a = c .before .before .before .before .args in
+    simp (c .fits2 .ensures, rd-is f) (sym (ap (fitsContent (a .identifier) (a .mark)) (b .1) ∙ content-test (a .identifier) (a .mark) (b .0 .0) (b .0 .1 .0)))
+
+returns-2 : tie.Need-returns-2
+unfolding fitsContent
+returns-2 c = rw (c .before .before .enum-told .given .1) (rw (c .enum-told2 .given .1))
+
+returns-3 : tie.Need-returns-3
+unfolding fitsContent
+returns-3 c = rw (c .before .before .enum-told .given .1) (rw (c .enum-told3 .given .1))
+
+returns-4 : tie.Need-returns-4
+unfolding fitsContent
+returns-4 c = rw (c .before .before .enum-told .given .1) (rw (c .enum-told4 .given .1))
+
+pub fits-content-spec : {M : Type 1} → statement M
+fits-content-spec =
+    tie.close
+    (tie.spec
+    enum-known-content
+    fits-requires
+    enum-told
+    enum-told-2
+    enum-told-3
+    enum-told-4
+    returns
+    returns-2
+    returns-3
+    returns-4)

@@ -1,0 +1,90 @@
+-- `reply::guess` meets its contract: the test is the definition's. Assumes nothing.
+use mathlib.Core.Path.{_≡_, sym, ap, ap₂, _∙_}
+use Prim.Native.Nat.{ℕ, _+_, _*_, _%_}
+use lib.ListN.{getD, drop}
+use Rattle.number.specs.Data.{isDigit, digitOf}
+use Rattle.reply.specs.Read.{charactersOf, guessBehind, guess}
+use Rattle.reply.proofs.Reader.{guess-one, guess-two}
+use borrow.Author.Needs.{needs}
+use Rattle.reply.proofs.guess.Statement.{statement}
+use Rattle.reply.proofs.guess.Tie as tie
+
+character-at-requires : tie.Need-character-at-requires
+character-at-requires c κs = search needs
+
+digit-of-requires : tie.Need-digit-of-requires
+digit-of-requires c κs = search needs
+
+character-at-requires-2 : tie.Need-character-at-requires-2
+character-at-requires-2 c κs = search needs
+
+is-digit-requires : tie.Need-is-digit-requires
+is-digit-requires c κs = search needs
+
+digit-of-requires-2 : tie.Need-digit-of-requires-2
+digit-of-requires-2 c κs = search needs
+
+cast-address : tie.Need-cast-address
+cast-address c = search needs
+
+mul-address : tie.Need-mul-address
+mul-address c = search needs
+
+cast-address-2 : tie.Need-cast-address-2
+cast-address-2 c = search needs
+
+add-address : tie.Need-add-address
+add-address c = search needs
+
+cast-guess-behind : tie.Need-cast-guess-behind
+cast-guess-behind c = search needs
+
+guess-behind-requires : tie.Need-guess-behind-requires
+guess-behind-requires c κs = search needs
+
+guess-behind-requires-2 : tie.Need-guess-behind-requires-2
+guess-behind-requires-2 c κs = search needs
+
+returns : tie.Need-returns
+returns c =
+    let t = c .before .before in
+    let s = t .before in
+    let f = s .before .before .before in
+    let cs = charactersOf (f .before .before .args .bytes .now) in
+    let second = s .before .character-at2 .ensures in
+    let tens = s .before .before .digit-of .ensures ∙ ap digitOf (f .character-at .ensures) in
+    let ones = c .before .digit-of2 .ensures ∙ ap digitOf second in
+    c .guess-behind .ensures
+    ∙ ap₂ (λ (x y : ℕ). guessBehind (getD cs 0 0) ((x * 10 + y) % 100) (drop 3 cs)) tens ones
+    ∙ sym (guess-two cs (ap isDigit (sym second) ∙ sym (s .is-digit .ensures) ∙ t .if1 .taken))
+
+returns-2 : tie.Need-returns-2
+returns-2 c =
+    let t = c .before in
+    let s = t .before in
+    let f = s .before .before .before in
+    let cs = charactersOf (f .before .before .args .bytes .now) in
+    let second = s .before .character-at2 .ensures in
+    let tens = s .before .before .digit-of .ensures ∙ ap digitOf (f .character-at .ensures) in
+    c .guess-behind2 .ensures
+    ∙ ap (λ (x : ℕ). guessBehind (getD cs 0 0) x (drop 2 cs)) tens
+    ∙ sym (guess-one cs (ap isDigit (sym second) ∙ sym (s .is-digit .ensures) ∙ t .if1 .left))
+
+pub guess-spec : {M : Type 1} → statement M
+guess-spec =
+    tie.close
+    (tie.spec
+    character-at-requires
+    digit-of-requires
+    character-at-requires-2
+    is-digit-requires
+    digit-of-requires-2
+    cast-address
+    mul-address
+    cast-address-2
+    add-address
+    cast-guess-behind
+    guess-behind-requires
+    guess-behind-requires-2
+    returns
+    returns-2)

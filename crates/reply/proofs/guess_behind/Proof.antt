@@ -1,0 +1,133 @@
+-- `reply::guess_behind` meets its contract: the characters are those of the definition. Assumes nothing.
+use mathlib.Core.Path.{_≡_, refl, sym, ap, ap₂, _∙_}
+use mathlib.Core.List.{List, [], _∷_}
+use Prim.Native.Nat.{ℕ, _+_}
+use native.Mathlib.Nat.{add-zero}
+use lib.ListN.{getD, drop}
+use Rattle.number.specs.declared.Data.{Data}
+use Rattle.number.specs.Data.{readData}
+use Rattle.reply.specs.Read.{charactersOf, guessMark, contentOf, five, guessBehind}
+use Rattle.reply.proofs.Reader.{character-behind, behind-status, behind-number}
+use borrow.Author.Needs.{needs}
+use Rattle.reply.proofs.guess_behind.Statement.{statement}
+use Rattle.reply.proofs.guess_behind.Tie as tie
+
+identifier : (c : tie.After-character-at2) → c .character-at2 .result ≡ getD (drop (c .before .before .before .args .k) (charactersOf (c .before .before .before .args .bytes .now))) 0 0
+identifier c =
+    let a = c .before .before .before .args in
+    let cs = charactersOf (a .bytes .now) in
+    c .character-at2 .ensures ∙ ap (λ (j : ℕ). getD cs j 0) (sym (add-zero (a .k))) ∙ character-behind cs (a .k) 0
+
+character-at-requires : tie.Need-character-at-requires
+character-at-requires c κs = search needs
+
+character-at-requires-2 : tie.Need-character-at-requires-2
+character-at-requires-2 c κs = search needs
+
+add-character-at : tie.Need-add-character-at
+add-character-at c = search needs
+
+character-at-requires-3 : tie.Need-character-at-requires-3
+character-at-requires-3 c κs = search needs
+
+guess-mark-requires : tie.Need-guess-mark-requires
+guess-mark-requires c κs = search needs
+
+returns : tie.Need-returns
+returns c =
+    let s = c .before .before .before .before in
+    let a = s .before .before .args in
+    let cs = charactersOf (a .bytes .now) in
+    behind-status (s .character-at .result) (a .address) _ _ (drop (a .k) cs) (identifier (c .before .before .before)) (c .before .before .if1 .taken)
+    (c .guess-mark .ensures ∙ ap guessMark (c .before .character-at3 .ensures ∙ character-behind cs (a .k) 1))
+    ∙ ap (λ (l : ℕ). guessBehind l (a .address) (drop (a .k) cs)) (s .character-at .ensures)
+
+add-character-at-2 : tie.Need-add-character-at-2
+add-character-at-2 c = search needs
+
+character-at-requires-4 : tie.Need-character-at-requires-4
+character-at-requires-4 c κs = search needs
+
+add-character-at-3 : tie.Need-add-character-at-3
+add-character-at-3 c = search needs
+
+character-at-requires-5 : tie.Need-character-at-requires-5
+character-at-requires-5 c κs = search needs
+
+add-character-at-4 : tie.Need-add-character-at-4
+add-character-at-4 c = search needs
+
+character-at-requires-6 : tie.Need-character-at-requires-6
+character-at-requires-6 c κs = search needs
+
+add-character-at-5 : tie.Need-add-character-at-5
+add-character-at-5 c = search needs
+
+character-at-requires-7 : tie.Need-character-at-requires-7
+character-at-requires-7 c κs = search needs
+
+add-character-at-6 : tie.Need-add-character-at-6
+add-character-at-6 c = search needs
+
+character-at-requires-8 : tie.Need-character-at-requires-8
+character-at-requires-8 c κs = search needs
+
+add-character-at-7 : tie.Need-add-character-at-7
+add-character-at-7 c = search needs
+
+character-at-requires-9 : tie.Need-character-at-requires-9
+character-at-requires-9 c κs = search needs
+
+guess-mark-requires-2 : tie.Need-guess-mark-requires-2
+guess-mark-requires-2 c κs = search needs
+
+read-data-requires : tie.Need-read-data-requires
+read-data-requires c κs = search needs
+
+content-of-requires : tie.Need-content-of-requires
+content-of-requires c κs = search needs
+
+returns-2 : tie.Need-returns-2
+unfolding five
+returns-2 c =
+    let s = c .before .before .before .before .before .before .before .before .before .before .before in
+    let a = s .before .before .args in
+    let cs = charactersOf (a .bytes .now) in
+    let k = a .k in
+    let r1 = c .before .before .before .before .before .before .before .before .character-at4 .ensures ∙ character-behind cs k 1 in
+    let r2 = c .before .before .before .before .before .before .before .character-at5 .ensures ∙ character-behind cs k 2 in
+    let r3 = c .before .before .before .before .before .before .character-at6 .ensures ∙ character-behind cs k 3 in
+    let r4 = c .before .before .before .before .before .character-at7 .ensures ∙ character-behind cs k 4 in
+    let r5 = c .before .before .before .before .character-at8 .ensures ∙ character-behind cs k 5 in
+    behind-number (s .character-at .result) (a .address) _ _ (drop k cs) (identifier (c .before .before .before .before .before .before .before .before .before .before)) _
+    (c .before .before .before .before .before .before .before .before .before .if1 .left)
+    (c .before .before .guess-mark2 .ensures ∙ ap guessMark (c .before .before .before .character-at9 .ensures ∙ character-behind cs k 6))
+    (c .content-of .ensures ∙ ap contentOf (c .before .read-data .ensures ∙ ap readData (λ j. r1 j ∷ r2 j ∷ r3 j ∷ r4 j ∷ r5 j ∷ [])))
+    ∙ ap (λ (l : ℕ). guessBehind l (a .address) (drop k cs)) (s .character-at .ensures)
+
+pub guess-behind-spec : {M : Type 1} → statement M
+guess-behind-spec =
+    tie.close
+    (tie.spec
+    character-at-requires
+    character-at-requires-2
+    add-character-at
+    character-at-requires-3
+    guess-mark-requires
+    returns
+    add-character-at-2
+    character-at-requires-4
+    add-character-at-3
+    character-at-requires-5
+    add-character-at-4
+    character-at-requires-6
+    add-character-at-5
+    character-at-requires-7
+    add-character-at-6
+    character-at-requires-8
+    add-character-at-7
+    character-at-requires-9
+    guess-mark-requires-2
+    read-data-requires
+    content-of-requires
+    returns-2)

@@ -1,0 +1,40 @@
+-- The answer that a reply carries, and how it is spelled.
+use mathlib.Core.Bool.{Bool, true, false, not, _&&_}
+use mathlib.Core.List.{List, [], _∷_, _++_}
+use Prim.Native.Nat.{ℕ}
+use Prim.Native.Char.{code}
+use lib.Dec.{eqb}
+use Rattle.number.specs.Data.{fits, spellData}
+use Rattle.message.specs.Message.{star, question, isLetter, isAddress, isIdentifier}
+use Rattle.message.specs.Spell.{spellAddress}
+use Rattle.reply.specs.declared.Mark.{Mark}
+use Rattle.reply.specs.declared.Mark.the-variants.{Accepted, Offered, Refused}
+use Rattle.reply.specs.declared.Content.{Content}
+use Rattle.reply.specs.declared.Content.the-variants.{Empty, Number}
+use Rattle.reply.specs.declared.Answer.{Answer}
+
+abbrev pub markOf : Mark → ℕ
+markOf Accepted = code "A"
+markOf Offered = code "I"
+markOf Refused = code "N"
+
+unfoldable pub spellContent : Content → List ℕ
+spellContent Empty = []
+spellContent (Number n d) = spellData n d
+
+-- document 01: "Replies spell the address without a leading zero"
+unfoldable pub spellAnswer : Answer → List ℕ
+spellAnswer a =
+    a .letter ∷ (spellAddress (a .address) ++ (a .identifier ∷ (spellContent (a .content) ++ (markOf (a .mark) ∷ star ∷ []))))
+
+-- document 01, number 6: "`?` has `A` and no data, any other identifier has data"
+unfoldable pub fitsContent : ℕ → Mark → Content → Bool
+fitsContent i Accepted Empty = eqb i question
+fitsContent i Offered Empty = false
+fitsContent i Refused Empty = false
+fitsContent i k (Number n d) = not (eqb i question) && fits n d
+
+-- an answer that some card gives
+unfoldable pub isAnswer : Answer → Bool
+isAnswer a =
+    isLetter (a .letter) && isAddress (a .address) && isIdentifier (a .identifier) && fitsContent (a .identifier) (a .mark) (a .content)

@@ -1,0 +1,211 @@
+// A reply: the answer it carries, its spelling, and the reader.
+ghost use mathlib.Core.Path.{_≡_};
+ghost use Prim.Native.Nat.{_≤_};
+ghost use lib.ListN.{length, getD, drop};
+ghost use Rattle.wire.specs.Line.{puts, lineOf, bytesOf};
+ghost use Rattle.reply.specs.Reply.{markOf, spellContent, spellAnswer, fitsContent, isAnswer};
+ghost use Rattle.number.specs.Data.{digitOf, spellData};
+ghost use Rattle.reply.specs.Read.{charactersOf, guessMark, contentOf, guessBehind, guess, same, readCall, outcomeOf};
+use number::Data;
+use refusal::Refusal;
+use wire::Line;
+
+// `A`, `I` and `N`.
+pub enum Mark {
+    Accepted,
+    Offered,
+    Refused,
+}
+
+// The number with its decimals, if any.
+pub enum Content {
+    Empty,
+    Number { number: i32, decimals: u8 },
+}
+
+pub struct Answer {
+    pub letter: u8,
+    pub address: u8,
+    pub identifier: u8,
+    pub mark: Mark,
+    pub content: Content,
+}
+
+// What the reader answers.
+pub enum Reading {
+    Refused(Refusal),
+    Gave(Answer),
+}
+
+fn mark_of(mark: Mark) -> u8
+    ensures { λ r. ⌜ r ≡ markOf mark ⌝ }
+{
+    match mark {
+        Mark::Accepted => b'A',
+        Mark::Offered => b'I',
+        Mark::Refused => b'N',
+    }
+}
+
+fn put_content(line: Line, content: Content) -> Line
+    ensures { λ r. ⌜ r ≡ puts line (spellContent content) ⌝ }
+{
+    match content {
+        Content::Empty => line,
+        Content::Number { number, decimals } => message::put_data(line, number, decimals),
+    }
+}
+
+// The reply as it travels, `*` included.
+pub fn spell(answer: Answer) -> Line
+    ensures { λ r. ⌜ r ≡ lineOf (spellAnswer answer) ⌝ }
+{
+    let letter = Line::new().put(answer.letter);
+    let address = message::put_address(letter, answer.address);
+    let identifier = address.put(answer.identifier);
+    let content = answer.content;
+    let number = put_content(identifier, content);
+    let mark = answer.mark;
+    number.put(mark_of(mark)).put(b'*')
+}
+
+fn fits_content(identifier: u8, mark: Mark, content: Content) -> bool
+    ensures { λ r. ⌜ r ≡ fitsContent identifier mark content ⌝ }
+{
+    match content {
+        Content::Number { number, decimals } => (identifier != b'?')
+            & number::fits(number, decimals),
+        Content::Empty => match mark {
+            Mark::Accepted => identifier == b'?',
+            Mark::Offered => false,
+            Mark::Refused => false,
+        },
+    }
+}
+
+// Whether some card gives it.
+pub fn is_answer(answer: Answer) -> bool
+    ensures { λ r. ⌜ r ≡ isAnswer answer ⌝ }
+{
+    let identifier = answer.identifier;
+    let mark = answer.mark;
+    let content = answer.content;
+    message::is_letter(answer.letter)
+        & message::is_address(answer.address)
+        & message::is_identifier(identifier)
+        & fits_content(identifier, mark, content)
+}
+
+// The character at a place, parity aside; 0 behind the end.
+fn character_at(bytes: &[u8], k: usize) -> u8
+    ensures { λ r. ⌜ r ≡ getD (charactersOf (now (bytes .entry))) k 0 ⌝ }
+{
+    if k < bytes.len() { bytes[k] % 128 } else { 0 }
+}
+
+fn digit_of(c: u8) -> u8
+    ensures { λ r. ⌜ r ≡ digitOf c ⌝ }
+{
+    if c < 48 { 0 } else { c - 48 }
+}
+
+fn guess_mark(c: u8) -> Mark
+    ensures { λ r. ⌜ r ≡ guessMark c ⌝ }
+{
+    if c == b'A' {
+        return Mark::Accepted;
+    }
+    if c == b'I' {
+        return Mark::Offered;
+    }
+    Mark::Refused
+}
+
+fn content_of(read: Data) -> Content
+    ensures { λ r. ⌜ r ≡ contentOf read ⌝ }
+{
+    match read {
+        Data::Partial { count: _, value: _ } => Content::Empty,
+        Data::Number { number, decimals } => Content::Number { number, decimals },
+        Data::Invalid => Content::Empty,
+    }
+}
+
+// The identifier stands at k.
+fn guess_behind(bytes: &[u8], address: u8, k: usize) -> Answer
+    requires { ⌜ k ≤ 3 ⌝ }
+    ensures { λ r. ⌜ r ≡ guessBehind (getD (charactersOf (now (bytes .entry))) 0 0) address (drop k (charactersOf (now (bytes .entry)))) ⌝ }
+{
+    let letter = character_at(bytes, 0);
+    let identifier = character_at(bytes, k);
+    if identifier == b'?' {
+        let mark = guess_mark(character_at(bytes, k + 1));
+        let content = Content::Empty;
+        return Answer {
+            letter,
+            address,
+            identifier,
+            mark,
+            content,
+        };
+    }
+    let a = character_at(bytes, k + 1);
+    let b = character_at(bytes, k + 2);
+    let c = character_at(bytes, k + 3);
+    let d = character_at(bytes, k + 4);
+    let e = character_at(bytes, k + 5);
+    let mark = guess_mark(character_at(bytes, k + 6));
+    let content = content_of(number::read_data([a, b, c, d, e]));
+    Answer {
+        letter,
+        address,
+        identifier,
+        mark,
+        content,
+    }
+}
+
+fn guess(bytes: &[u8]) -> Answer
+    ensures { λ r. ⌜ r ≡ guess (charactersOf (now (bytes .entry))) ⌝ }
+{
+    let tens = digit_of(character_at(bytes, 1));
+    let second = character_at(bytes, 2);
+    if number::is_digit(second) {
+        let ones = digit_of(second);
+        let address = (tens as u32 * 10 + ones as u32) % 100;
+        guess_behind(bytes, address as u8, 3)
+    } else {
+        guess_behind(bytes, tens, 2)
+    }
+}
+
+fn equal(a: &[u8], b: &[u8]) -> bool
+    ensures { λ r. ⌜ r ≡ same (now (a .entry)) (now (b .entry)) ⌝ }
+{
+    if a.len() != b.len() {
+        return false;
+    }
+    let mut i = 0;
+    while i < a.len() {
+        if a[i] != b[i] {
+            return false;
+        }
+        i += 1;
+    }
+    true
+}
+
+// The answer that the card gave.
+pub fn read(bytes: &[u8]) -> Reading
+    ensures { λ r. ⌜ outcomeOf r ≡ readCall (now (bytes .entry)) ⌝ }
+{
+    let answer = guess(bytes);
+    let line = spell(answer);
+    let spelled = line.bytes;
+    let len = line.len;
+    if is_answer(answer) & equal(&spelled[..len], bytes) {
+        Reading::Gave(answer)
+    } else {
+        Reading::Refused(Refusal::NotReply)
+    }
+}
