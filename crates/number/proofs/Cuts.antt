@@ -2,16 +2,16 @@
 -- fact of natural numbers, since n - n % s is n / s times s, and then goes by the sign of x. A step is at least 1 by the
 -- test `leZ (pos 1) step`. Assumes nothing.
 use mathlib.Core.Path.{_≡_, refl, sym, ap, _∙_, subst}
-use mathlib.Core.Bool.{true, false≢true}
+use mathlib.Core.Bool.{true, _&&_, false≢true}
 use Prim.Native.Nat.{ℕ, suc, _+_, _-_, _*_, _/_, _%_, _<_, _≤_}
 use native.Mathlib.Nat.{mod-lt, mul-mod-left, add-mod-right, div-add-mod', div-lt-iff-lt-mul, mul-le-mul-right, suc-mul, le-div-iff-mul-le, le-of-lt, mod-eq-sub-mod, zero-mod}
 use native.Mathlib.Omega.{arith}
-use lib.Dec.{eqb, ltb}
+use lib.Dec.{eqb, ltb, lit≤}
 use lib.IntN.{ℤ, pos, negsuc, negℤ, natAbs, subℕ, _+ℤ_, _-ℤ_, negℤ-+ℤ, negℤ-negℤ}
 use lib.Signed.{ltZ, leZ}
 use borrow.Author.Tests.{eqb-true, eq-eqb, ltb-true, ltb-false, lt-ltb, leb-true, le-leb}
 use Rattle.refusal.proofs.Logic.{and-left, and-right, and-both, choice}
-use Rattle.number.specs.Number.{inRange, isMultiple, cutDown, cut}
+use Rattle.number.specs.Number.{inRange, isMultiple, isSmall, cutDown, cut, raised, lowered}
 use Rattle.number.proofs.Signed.{step-pos, step-is, natAbs-minus}
 
 -- ---- a range
@@ -209,3 +209,19 @@ down-multiple x (pos s) m =
     let p = multiple-step x (pos s) m in
     rem-multiple (x -ℤ pos s) (pos s) p (step-multiple-down x s (step-pos (pos s) p) (multiple-rem x (pos s) m))
 down-multiple x (negsuc s) m = absurd (false≢true (multiple-step x (negsuc s) m))
+
+-- ---- numbers of four digits
+
+pub both-small : (x y : ℤ) → (isSmall x && isSmall y) ≡ true → (natAbs x ≤ 9999) × (natAbs y ≤ 9999)
+both-small x y e = (
+  in-range-within (negsuc 9998) x (pos 9999) (and-left (isSmall x) (isSmall y) e) (lit≤ tt) (lit≤ tt),
+  in-range-within (negsuc 9998) y (pos 9999) (and-right (isSmall x) (isSmall y) e) (lit≤ tt) (lit≤ tt),
+)
+
+pub raised-is : (x y : ℤ) → natAbs x ≤ 9999 → natAbs y ≤ 9999 → raised x y ≡ x +ℤ y
+unfolding raised
+raised-is x y h k = rw (four-digits x h, four-digits y k)
+
+pub lowered-is : (x y : ℤ) → natAbs x ≤ 9999 → natAbs y ≤ 9999 → lowered x y ≡ x -ℤ y
+unfolding lowered
+lowered-is x y h k = rw (four-digits x h, four-digits y k)

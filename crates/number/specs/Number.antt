@@ -2,7 +2,7 @@
 use mathlib.Core.Bool.{Bool, cond, _&&_}
 use Prim.Native.Nat.{ℕ, _+_, _-_, _%_}
 use lib.Dec.{eqb}
-use lib.IntN.{ℤ, pos, negsuc, natAbs}
+use lib.IntN.{ℤ, pos, negsuc, natAbs, _+ℤ_, _-ℤ_}
 use lib.Signed.{leZ}
 
 -- from least to greatest, both included
@@ -19,8 +19,17 @@ unfoldable pub cutDown : ℤ → ℕ → ℤ
 cutDown (pos n) s = pos (n - n % s)
 cutDown (negsuc n) s = negsuc (n - n % s + (s - 1))
 
+-- four digits and a sign
+abbrev pub isSmall : ℤ → Bool
+isSmall x = inRange (negsuc 9998) x (pos 9999)
+
 -- the cut of a number of four digits, by a step of 1 to 9,999; anything else is left as it is
 unfoldable pub cut : ℤ → ℤ → ℤ
-cut x step =
-    cond (inRange (negsuc 9998) x (pos 9999) && inRange (pos 1) step (pos 9999))
-    (cutDown x (natAbs step)) x
+cut x step = cond (isSmall x && inRange (pos 1) step (pos 9999)) (cutDown x (natAbs step)) x
+
+-- one step up and one down, of numbers of four digits; anything else is left as it is
+unfoldable pub raised : ℤ → ℤ → ℤ
+raised x step = cond (isSmall x && isSmall step) (x +ℤ step) x
+
+unfoldable pub lowered : ℤ → ℤ → ℤ
+lowered x step = cond (isSmall x && isSmall step) (x -ℤ step) x

@@ -5,7 +5,7 @@ ghost use mathlib.Core.Bool.{true};
 ghost use Prim.Native.Nat.{_%_, _≤_};
 ghost use lib.IntN.{pos, natAbs};
 ghost use lib.Signed.{leZ};
-ghost use Rattle.number.specs.Number.{inRange, isMultiple, cutDown, cut};
+ghost use Rattle.number.specs.Number.{inRange, isMultiple, cutDown, cut, raised, lowered};
 ghost use Rattle.number.specs.Data.{digit, isDigit, fits, codeOf, spellData, decode, next, readData};
 
 // Data as far as it has been read: fewer than five digits, all five, or something that is no data.
@@ -55,6 +55,28 @@ pub fn cut(x: i32, step: i32) -> i32
 {
     if in_range(-9999, x, 9999) & in_range(1, step, 9999) {
         cut_down(x, step)
+    } else {
+        x
+    }
+}
+
+// One step up; what is beyond four digits is left as it is.
+pub fn raised(x: i32, step: i32) -> i32
+    ensures { λ r. ⌜ r ≡ raised x step ⌝ }
+{
+    if in_range(-9999, x, 9999) & in_range(-9999, step, 9999) {
+        x + step
+    } else {
+        x
+    }
+}
+
+// One step down; what is beyond four digits is left as it is.
+pub fn lowered(x: i32, step: i32) -> i32
+    ensures { λ r. ⌜ r ≡ lowered x step ⌝ }
+{
+    if in_range(-9999, x, 9999) & in_range(-9999, step, 9999) {
+        x - step
     } else {
         x
     }

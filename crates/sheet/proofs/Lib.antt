@@ -2,3 +2,4 @@ pub mod Rows
 pub mod Sheets
 pub mod Values
 pub mod Places
+pub mod Cases

@@ -1,22 +1,38 @@
 -- What a sound row and a sound sheet give, and what the lookup finds. Whoever uses a sheet cites these, and never the definitions.
 -- Assumes nothing.
-use mathlib.Core.Path.{_≡_, refl, sym, ap, _∙_, subst}
-use mathlib.Core.Bool.{Bool, true, false, cond, not, _&&_, false≢true}
+use mathlib.Core.Path.{_≡_, refl, sym, ap, _∙_}
+use mathlib.Core.Bool.{true, false, _&&_, false≢true}
 use mathlib.Core.List.{List, [], _∷_}
 use Prim.Native.Nat.{ℕ, zero, suc, _+_, _≤_}
 use native.Mathlib.Omega.{arith}
-use borrow.Author.Tests.{eqb-true, eq-eqb, ltb-true, ltb-false, lt-ltb, le-ltb, leb-true}
-use lib.Dec.{eqb, ltb, leb}
+use borrow.Author.Tests.{eqb-true, eq-eqb, ltb-true, ltb-false, lt-ltb, leb-true}
+use lib.Dec.{T, eqb}
 use lib.IntN.{ℤ, pos, negsuc, natAbs}
-use lib.Signed.{leZ, ltZ}
+use lib.Signed.{leZ, ltZ, nonNeg}
 use lib.ListN.{length, take, drop, length-drop}
 use lib.Seq.{length-take-le, drop-length}
-use Rattle.refusal.proofs.Logic.{and-left, and-right, ands, and-both, not-is, choice, by-test}
+use mir.Syntax.{w32}
+use mir.Val.{SFits}
+use Rattle.refusal.proofs.Logic.{ands, and-both, not-is, choice, by-test}
 use Rattle.number.specs.Number.{inRange, isMultiple}
+use Rattle.number.proofs.Signed.{rd, rd-is}
+use Rattle.number.proofs.Cuts.{in-range-ends, leZ-trans}
 use Rattle.message.specs.Message.{isIdentifier, question}
 use Rattle.sheet.specs.Sheet.{at, rows, soundIdentifier, soundNumbers, soundRow, soundRows, soundSheet}
-use Rattle.sheet.specs.Lookup.{isCode, isFor, rowAmong, placeAmong, rowIn, placeIn, hasRow, rowOf, shown}
+use Rattle.sheet.specs.Lookup.{isCode, isFor, rowAmong, rowIn, placeIn, hasRow, rowOf, shown, from, rowLies}
 use Rattle.sheet.proofs.Rows.{stands}
+
+-- ---- a number in a range that starts at zero or above, as the code casts it
+
+pub range-cast : (least x greatest : ℤ) → leZ (pos 0) least ≡ true → inRange least x greatest ≡ true → SFits w32 x → T (nonNeg (rd x)) × (natAbs (rd x) ≤ natAbs greatest)
+range-cast least x greatest p e f =
+    let ends = in-range-ends least x greatest e in
+    rw (rd-is f) (natural x greatest (leZ-trans (pos 0) least x p (ends .0)) (ends .1))
+  where
+    natural : (x g : ℤ) → leZ (pos 0) x ≡ true → leZ x g ≡ true → T (nonNeg x) × (natAbs x ≤ natAbs g)
+    natural (pos n) (pos g) p q = (tt, leb-true n g q)
+    natural (pos n) (negsuc g) p q = absurd (false≢true q)
+    natural (negsuc n) g p q = absurd (false≢true p)
 
 -- ---- a sound row, by its rules
 
@@ -149,6 +165,15 @@ module _ (bench maker : List ℤ) (i : ℕ) where
   pub maker-else : hasRow bench i ≡ false → rowOf bench maker i ≡ rowIn maker i
   unfolding rowOf
   maker-else e = rw e
+
+  -- and where it lies, with pointers b and m to the sheets
+  pub bench-lies : (b m : ℕ × ℕ) → hasRow bench i ≡ true → rowLies b m bench maker i ≡ from b (placeIn bench i)
+  unfolding rowLies
+  bench-lies b m e = rw e
+
+  pub maker-lies : (b m : ℕ × ℕ) → hasRow bench i ≡ false → rowLies b m bench maker i ≡ from m (placeIn maker i)
+  unfolding rowLies
+  maker-lies b m e = rw e
 
   pub row-of-cases : (P : List ℤ → Type 0) → P [] → ((r : List ℤ) → RowFor i r → P r) → P (rowOf bench maker i)
   unfolding rowOf

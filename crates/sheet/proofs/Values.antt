@@ -1,16 +1,16 @@
 -- What a row allows and what sound values are, place by place; storing a value that a row allows keeps them sound.
 -- Whoever uses rows and values cites these, and never the definitions. Assumes nothing.
 use mathlib.Core.Path.{_≡_, refl, sym, ap, _∙_, subst}
-use mathlib.Core.Bool.{Bool, true, false, cond, not, _&&_, _||_, false≢true}
+use mathlib.Core.Bool.{Bool, true, false, false≢true}
 use mathlib.Core.List.{List, [], _∷_}
 use Prim.Native.Nat.{ℕ, zero, suc, _+_, _≤_, _<_}
 use native.Mathlib.Nat.{add-zero, add-suc, zero-add, suc-add, not-suc-le-zero, le-of-suc-le-suc}
 use native.Mathlib.Omega.{arith}
-use borrow.Author.Tests.{eqb-true, eqb-false, eq-eqb, leb-true}
-use lib.Dec.{eqb, leb}
+use borrow.Author.Tests.{eqb-true, eqb-false, eq-eqb}
+use lib.Dec.{eqb}
 use lib.IntN.{ℤ, pos, negsuc, natAbs, _+ℤ_, _-ℤ_}
 use lib.Signed.{leZ}
-use lib.ListN.{length, getD, set, length-set}
+use lib.ListN.{length, set, length-set}
 use lib.Seq.{getD-set-same, getD-set-other}
 use Rattle.refusal.proofs.Logic.{and-left, and-right, ands, and-both, by-test, choice}
 use Rattle.number.specs.Number.{inRange, isMultiple, cut}
@@ -24,7 +24,7 @@ use Rattle.sheet.specs.Values.{numbersOf, entryOf, entryIn, isReadable, 
 use Rattle.sheet.specs.declared.Row.{Row}
 use Rattle.sheet.specs.declared.Entry.{Entry}
 use Rattle.sheet.specs.declared.Entry.the-variants.{Found, Missing}
-use Rattle.sheet.proofs.Sheets.{RowParts, row-parts, RowFor, row-has, bench-wins, row-of-cases, row-of-sound, sound-code, alone-row}
+use Rattle.sheet.proofs.Sheets.{row-parts, row-has, bench-wins, row-of-cases, row-of-sound, sound-code, alone-row}
 
 -- ---- a row by value
 

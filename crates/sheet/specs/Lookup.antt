@@ -34,6 +34,7 @@ rowIn s i = rowAmong (rows s) i
 unfoldable pub placeIn : List ℤ → ℕ → ℕ
 placeIn s i = placeAmong (rows s) i
 
+-- the place of a row is before the end of the sheet
 unfoldable pub hasRow : List ℤ → ℕ → Bool
 hasRow s i = ltb (placeIn s i) (length s)
 

@@ -11,7 +11,7 @@ use lib.IntN.{ℤ}
 use lib.ListN.{length, take, drop}
 use Rattle.sheet.specs.Lookup.{rowIn, placeIn, hasRow, rowOf, from, rowLies}
 use Rattle.sheet.proofs.Rows.{stands}
-use Rattle.sheet.proofs.Sheets.{row-none, bench-wins, maker-else}
+use Rattle.sheet.proofs.Sheets.{row-none, bench-wins, maker-else, bench-lies, maker-lies}
 use borrow.Author.Needs.{needs}
 use Rattle.sheet.proofs.find_row.Statement.{statement}
 use Rattle.sheet.proofs.find_row.Tie as tie
@@ -24,10 +24,10 @@ module _ (b m : List ℤ) (bp mp : ℕ × ℕ) (i p : ℕ) where
       rw n (ap (λ (k : ℕ). take 6 (drop k s)) e ∙ sym (stands s i .row))
 
   in-bench : p ≡ placeIn b i → p < length b → (take (p + 6 - p) (drop p b) ≡ rowOf b m i) × (from bp p ≡ rowLies bp mp b m i)
-  unfolding rowLies hasRow
+  unfolding hasRow
   in-bench e h =
       let t : ltb (placeIn b i) (length b) ≡ true = lt-ltb (placeIn b i) (length b) (omega arith) in
-      (six b e ∙ sym (bench-wins b m i t), ap (from bp) e ∙ rw t)
+      (six b e ∙ sym (bench-wins b m i t), ap (from bp) e ∙ sym (bench-lies b m i bp mp t))
 
   module _ (gone : length b ≤ placeIn b i) where
     not-bench : hasRow b i ≡ false
@@ -35,8 +35,7 @@ module _ (b m : List ℤ) (bp mp : ℕ × ℕ) (i p : ℕ) where
     not-bench = le-ltb _ _ gone
 
     in-maker : p ≡ placeIn m i → from mp p ≡ rowLies bp mp b m i
-    unfolding rowLies
-    in-maker e = ap (from mp) e ∙ rw not-bench
+    in-maker e = ap (from mp) e ∙ sym (maker-lies b m i bp mp not-bench)
 
     row-there : p ≡ placeIn m i → take (p + 6 - p) (drop p m) ≡ rowOf b m i
     row-there e = six m e ∙ sym (maker-else b m i not-bench)

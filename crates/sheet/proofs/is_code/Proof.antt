@@ -9,7 +9,6 @@ use lib.Dec.{eqb}
 use lib.IntN.{ℤ, pos, negsuc}
 use mir.Syntax.{w32}
 use mir.Val.{SFits, ofZ}
-use Rattle.number.proofs.Signed.{fits-pos}
 use Rattle.sheet.specs.Lookup.{isCode}
 use Rattle.sheet.proofs.is_code.Statement.{statement}
 use Rattle.sheet.proofs.is_code.Tie as tie

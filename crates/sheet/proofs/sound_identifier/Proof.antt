@@ -1,34 +1,25 @@
 -- `sheet::sound_identifier` meets its contract: a number from 0 to 127 is a byte, and no other is an identifier. Assumes nothing.
-use mathlib.Core.Path.{_≡_, refl, sym, ap, _∙_, subst}
+use mathlib.Core.Path.{_≡_, refl, sym, ap, _∙_}
 use mathlib.Core.Bool.{true, false, not, _&&_, false≢true}
-use Prim.Native.Nat.{ℕ, _≤_}
 use native.Mathlib.Omega.{arith}
 use borrow.Author.Needs.{needs}
-use borrow.Author.Tests.{leb-true, leb-false, le-leb}
-use lib.Dec.{T, eqb, leb}
+use borrow.Author.Tests.{leb-false, le-leb}
+use lib.Dec.{eqb}
 use lib.IntN.{ℤ, pos, negsuc, natAbs}
-use lib.Signed.{nonNeg}
-use mir.Syntax.{w8, w32}
-use mir.Val.{Fits}
-use Rattle.refusal.proofs.Logic.{and-right, by-test}
+use Rattle.refusal.proofs.Logic.{by-test}
 use Rattle.number.specs.Number.{inRange}
 use Rattle.number.proofs.Signed.{rd-is}
 use Rattle.message.specs.Message.{isIdentifier}
 use Rattle.message.proofs.Messages.{plain-identifier}
 use Rattle.sheet.specs.Sheet.{soundIdentifier}
-use Rattle.sheet.proofs.Sheets.{sound-code}
+use Rattle.sheet.proofs.Sheets.{range-cast, sound-code}
 use Rattle.sheet.proofs.sound_identifier.Statement.{statement}
 use Rattle.sheet.proofs.sound_identifier.Tie as tie
 
-byte : (x : ℤ) → inRange (pos 0) x (pos 127) ≡ true → T (nonNeg x) × Fits w8 (natAbs x)
-unfolding inRange
-byte (pos n) e = (tt, record { fits = omega (arith, leb-true n 127 (and-right (leb 0 n) (leb n 127) e)) })
-byte (negsuc n) e = absurd (false≢true e)
-
-as-byte : (x : ℤ) → inRange (pos 0) x (pos 127) ≡ true → (isIdentifier (natAbs x) && not (eqb (natAbs x) 63)) ≡ soundIdentifier x
+in-range : (x : ℤ) → inRange (pos 0) x (pos 127) ≡ true → (isIdentifier (natAbs x) && not (eqb (natAbs x) 63)) ≡ soundIdentifier x
 unfolding inRange soundIdentifier
-as-byte (pos n) e = refl
-as-byte (negsuc n) e = absurd (false≢true e)
+in-range (pos n) e = refl
+in-range (negsuc n) e = absurd (false≢true e)
 
 outside : (x : ℤ) → inRange (pos 0) x (pos 127) ≡ false → false ≡ soundIdentifier x
 unfolding inRange
@@ -47,7 +38,9 @@ was c = ap (λ (z : ℤ). inRange (pos 0) z (pos 127)) (sym (rd-is (c .before .f
 
 cast-c : tie.Need-cast-c
 cast-c c =
-    rw (rd-is (c .before .before .fits .x)) (byte (c .before .before .args .x) (was (c .before) ∙ c .if1 .taken))
+    let s = c .before .before in
+    let r = range-cast (pos 0) (s .args .x) (pos 127) refl (was (c .before) ∙ c .if1 .taken) (s .fits .x) in
+    (r .0, record { fits = omega (arith, r .1) })
 
 is-identifier-requires : tie.Need-is-identifier-requires
 is-identifier-requires c κs = search needs
@@ -55,7 +48,7 @@ is-identifier-requires c κs = search needs
 returns : tie.Need-returns
 returns c =
     let s = c .before .before .before in
-    simp (c .is-identifier .ensures, rd-is (s .fits .x)) (as-byte (s .args .x) (was (c .before .before) ∙ c .before .if1 .taken))
+    simp (c .is-identifier .ensures, rd-is (s .fits .x)) (in-range (s .args .x) (was (c .before .before) ∙ c .before .if1 .taken))
 
 returns-2 : tie.Need-returns-2
 returns-2 c = outside (c .before .before .args .x) (was (c .before) ∙ c .if1 .left)

@@ -1,0 +1,67 @@
+-- `act::query` meets its contract: the arm and the test say which case it is. Assumes nothing.
+use Rattle.sheet.specs.declared.Entry.the-variants.{Found}
+use mathlib.Core.Path.{_≡_, sym, ap, ap₂, _∙_}
+use lib.IntN.{ℤ}
+use Rattle.number.proofs.Signed.{rd-is, rd-ok}
+use Rattle.reply.specs.declared.Mark.the-variants.{Accepted}
+use Rattle.reply.specs.declared.Content.the-variants.{Number}
+use Rattle.act.specs.Act.{says, declines, query}
+use borrow.Author.Needs.{needs}
+use Rattle.act.proofs.query.Statement.{statement}
+use Rattle.act.proofs.query.Tie as tie
+
+enum-known-entry : tie.Need-enum-known-entry
+enum-known-entry c = search needs
+
+enum-told : tie.Need-enum-told
+enum-told c = search needs
+
+declines-requires : tie.Need-declines-requires
+declines-requires c κs = search needs
+
+returns : tie.Need-returns
+unfolding query
+returns c =
+    let s = c .before .before .before in
+    c .declines .ensures ∙ ap (declines (s .args .message) (s .args .entry)) (rd-is (s .fits .value)) ∙ sym (rw (c .before .enum-told .given .1))
+
+is-readable-requires : tie.Need-is-readable-requires
+is-readable-requires c κs = search needs
+
+says-requires : tie.Need-says-requires
+says-requires c κs = search needs
+
+declines-requires-2 : tie.Need-declines-requires-2
+declines-requires-2 c κs = search needs
+
+returns-2 : tie.Need-returns-2
+unfolding query
+returns-2 c =
+    let e = c .before .before .before .before .entry .given in
+    let s = c .before .before .before .before .before .before in
+    c .says .ensures
+    ∙ ap (λ (z : ℤ). says (s .args .message) Accepted (Number z (e .0 .0 .decimals))) (rd-is (s .fits .value))
+    ∙ sym (rw (e .1) (rw (sym (c .before .before .is-readable .ensures) ∙ c .before .if1 .taken)))
+
+returns-3 : tie.Need-returns-3
+unfolding query
+returns-3 c =
+    let e = c .before .before .before .before .entry .given in
+    let s = c .before .before .before .before .before .before in
+    c .declines2 .ensures
+    ∙ ap (declines (s .args .message) (Found (e .0 .0))) (rd-is (s .fits .value))
+    ∙ sym (rw (e .1) (rw (sym (c .before .before .is-readable .ensures) ∙ c .before .if1 .left)))
+
+pub query-spec : {M : Type 1} → statement M
+query-spec =
+    tie.close
+    (tie.spec
+    enum-known-entry
+    enum-told
+    declines-requires
+    returns
+    is-readable-requires
+    says-requires
+    declines-requires-2
+    returns-2
+    returns-3)

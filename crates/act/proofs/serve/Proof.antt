@@ -1,0 +1,105 @@
+-- `act::serve` meets its contract: the arm says which type it is. Assumes nothing.
+use mathlib.Core.Path.{_≡_, sym, ap, ap₂, _∙_}
+use lib.IntN.{ℤ}
+use Rattle.number.proofs.Signed.{rd-is, rd-ok}
+use mir.Syntax.{w32}
+use mir.Val.{SFits}
+use Rattle.act.specs.Act.{query, up, down, set, serve}
+use borrow.Author.Needs.{needs}
+use Rattle.act.proofs.serve.Statement.{statement}
+use Rattle.act.proofs.serve.Tie as tie
+
+enum-told : tie.Need-enum-told
+enum-told c = search needs
+
+says-requires : tie.Need-says-requires
+says-requires c κs = search needs
+
+enum-told-2 : tie.Need-enum-told-2
+enum-told-2 c = search needs
+
+query-requires : tie.Need-query-requires
+query-requires c κs = search needs
+
+enum-told-3 : tie.Need-enum-told-3
+enum-told-3 c = search needs
+
+up-requires : tie.Need-up-requires
+up-requires c κs = search needs
+
+enum-told-4 : tie.Need-enum-told-4
+enum-told-4 c = search needs
+
+down-requires : tie.Need-down-requires
+down-requires c κs = search needs
+
+enum-known-body : tie.Need-enum-known-body
+enum-known-body c = search needs
+
+set-requires : tie.Need-set-requires
+set-requires c κs = search needs
+
+enum-told-5 : tie.Need-enum-told-5
+enum-told-5 c = search needs
+
+store-offer-requires : tie.Need-store-offer-requires
+store-offer-requires c κs = search needs
+
+returns : tie.Need-returns
+unfolding serve
+returns c = c .says .ensures ∙ sym (rw (c .before .enum-told .given .1))
+
+returns-2 : tie.Need-returns-2
+unfolding serve
+returns-2 c =
+    let s = c .before .before .before in
+    c .query .ensures ∙ ap (query (s .args .message) (s .args .entry)) (rd-is (s .fits .value)) ∙ sym (rw (c .before .enum-told2 .given .1))
+
+returns-3 : tie.Need-returns-3
+unfolding serve
+returns-3 c =
+    let s = c .before .before .before in
+    c .up .ensures ∙ ap (up (s .args .message) (s .args .entry)) (rd-is (s .fits .value)) ∙ sym (rw (c .before .enum-told3 .given .1))
+
+returns-4 : tie.Need-returns-4
+unfolding serve
+returns-4 c =
+    let s = c .before .before .before in
+    c .down .ensures ∙ ap (down (s .args .message) (s .args .entry)) (rd-is (s .fits .value)) ∙ sym (rw (c .before .enum-told4 .given .1))
+
+returns-5 : tie.Need-returns-5
+unfolding serve
+returns-5 c =
+    let b = c .before .before .body .given in
+    let s = c .before .before .before .before in
+    let f : SFits w32 (b .0 .0) = record { sfits = c .before .known-told .given .0 .1 } in
+    c .set .ensures
+    ∙ ap₂ (λ (v n : ℤ). set (s .args .message) (s .args .entry) v n (b .0 .1 .0)) (rd-is (s .fits .value)) (rd-is f)
+    ∙ sym (rw (b .1))
+
+returns-6 : tie.Need-returns-6
+unfolding serve
+returns-6 c = c .store-offer .ensures ∙ sym (rw (c .before .enum-told5 .given .1))
+
+pub serve-spec : {M : Type 1} → statement M
+serve-spec =
+    tie.close
+    (tie.spec
+    enum-told
+    says-requires
+    enum-told-2
+    query-requires
+    enum-told-3
+    up-requires
+    enum-told-4
+    down-requires
+    enum-known-body
+    set-requires
+    enum-told-5
+    store-offer-requires
+    returns
+    returns-2
+    returns-3
+    returns-4
+    returns-5
+    returns-6)

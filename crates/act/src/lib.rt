@@ -1,0 +1,271 @@
+// What a card does with a heard message: what it says, the offer afterwards, and what is stored.
+ghost use mathlib.Core.Path.{_≡_};
+ghost use lib.IntN.{pos};
+ghost use lib.ListN.{getD};
+ghost use Rattle.act.specs.Act.{silent, answerTo, says, puts, shownBy, declines, query, moves, up, down, offers, set, decimalsOf, store, serve, act};
+use message::Body;
+use message::Message;
+use reply::Answer;
+use reply::Content;
+use reply::Mark;
+use sheet::Entry;
+use sheet::Row;
+
+// A number that a Type 3 message left, to be stored by a Type 4.
+pub enum Offer {
+    Nothing,
+    Held { identifier: u8, value: i32 },
+}
+
+// What a card says to a word.
+pub enum Said {
+    Silence,
+    Reply(Answer),
+}
+
+// What is done to the values.
+pub enum Store {
+    Keep,
+    Put { place: u8, value: i32 },
+}
+
+// What a heard message leads to.
+pub struct Effect {
+    pub said: Said,
+    pub offer: Offer,
+    pub store: Store,
+}
+
+// Silence, offer gone.
+fn silent() -> Effect
+    ensures { λ r. ⌜ r ≡ silent ⌝ }
+{
+    Effect {
+        said: Said::Silence,
+        offer: Offer::Nothing,
+        store: Store::Keep,
+    }
+}
+
+fn answer_to(message: Message, mark: Mark, content: Content) -> Answer
+    ensures { λ r. ⌜ r ≡ answerTo message mark content ⌝ }
+{
+    Answer {
+        letter: message.letter,
+        address: message.address,
+        identifier: message.identifier,
+        mark,
+        content,
+    }
+}
+
+// A reply, offer gone, nothing stored.
+fn says(message: Message, mark: Mark, content: Content) -> Effect
+    ensures { λ r. ⌜ r ≡ says message mark content ⌝ }
+{
+    let answer = answer_to(message, mark, content);
+    let said = Said::Reply(answer);
+    let offer = Offer::Nothing;
+    let store = Store::Keep;
+    Effect { said, offer, store }
+}
+
+// The new value and `A`, offer gone.
+fn puts(message: Message, value: i32, decimals: u8) -> Effect
+    ensures { λ r. ⌜ r ≡ puts message value decimals ⌝ }
+{
+    let content = Content::Number {
+        number: value,
+        decimals,
+    };
+    let answer = answer_to(message, Mark::Accepted, content);
+    let said = Said::Reply(answer);
+    let offer = Offer::Nothing;
+    let store = Store::Put {
+        place: message.identifier,
+        value,
+    };
+    Effect { said, offer, store }
+}
+
+// What `N` carries.
+fn shown_by(entry: Entry, value: i32) -> Content
+    ensures { λ r. ⌜ r ≡ shownBy entry value ⌝ }
+{
+    let Entry::Found(row) = entry else {
+        return Content::Number {
+            number: 0,
+            decimals: 0,
+        };
+    };
+    if sheet::is_readable(row) {
+        Content::Number {
+            number: value,
+            decimals: row.decimals,
+        }
+    } else {
+        Content::Number {
+            number: 0,
+            decimals: 0,
+        }
+    }
+}
+
+fn declines(message: Message, entry: Entry, value: i32) -> Effect
+    ensures { λ r. ⌜ r ≡ declines message entry value ⌝ }
+{
+    says(message, Mark::Refused, shown_by(entry, value))
+}
+
+// Type 2 `?`.
+fn query(message: Message, entry: Entry, value: i32) -> Effect
+    ensures { λ r. ⌜ r ≡ query message entry value ⌝ }
+{
+    let Entry::Found(row) = entry else {
+        return declines(message, entry, value);
+    };
+    if sheet::is_readable(row) {
+        let content = Content::Number {
+            number: value,
+            decimals: row.decimals,
+        };
+        says(message, Mark::Accepted, content)
+    } else {
+        declines(message, entry, value)
+    }
+}
+
+// One step to the next value, where the row allows it.
+fn moves(message: Message, row: Row, value: i32, next: i32) -> Effect
+    ensures { λ r. ⌜ r ≡ moves message row value next ⌝ }
+{
+    if sheet::is_read_write(row) & number::in_range(row.least, next, row.greatest) {
+        puts(message, next, row.decimals)
+    } else {
+        declines(message, Entry::Found(row), value)
+    }
+}
+
+// Type 2 `+`.
+fn up(message: Message, entry: Entry, value: i32) -> Effect
+    ensures { λ r. ⌜ r ≡ up message entry value ⌝ }
+{
+    let Entry::Found(row) = entry else {
+        return declines(message, entry, value);
+    };
+    moves(message, row, value, number::raised(value, row.step))
+}
+
+// Type 2 `-`.
+fn down(message: Message, entry: Entry, value: i32) -> Effect
+    ensures { λ r. ⌜ r ≡ down message entry value ⌝ }
+{
+    let Entry::Found(row) = entry else {
+        return declines(message, entry, value);
+    };
+    moves(message, row, value, number::lowered(value, row.step))
+}
+
+// The number cut down, offered.
+fn offers(message: Message, row: Row, number: i32) -> Effect
+    ensures { λ r. ⌜ r ≡ offers message row number ⌝ }
+{
+    let value = number::cut(number, row.step);
+    let content = Content::Number {
+        number: value,
+        decimals: row.decimals,
+    };
+    let answer = answer_to(message, Mark::Offered, content);
+    let said = Said::Reply(answer);
+    let offer = Offer::Held {
+        identifier: message.identifier,
+        value,
+    };
+    let store = Store::Keep;
+    Effect { said, offer, store }
+}
+
+// Type 3: the range is tested before the cut.
+fn set(message: Message, entry: Entry, value: i32, number: i32, decimals: u8) -> Effect
+    ensures { λ r. ⌜ r ≡ set message entry value number decimals ⌝ }
+{
+    let Entry::Found(row) = entry else {
+        return declines(message, entry, value);
+    };
+    if sheet::is_writable(row)
+        & (decimals == row.decimals)
+        & number::in_range(row.least, number, row.greatest)
+    {
+        offers(message, row, number)
+    } else {
+        declines(message, entry, value)
+    }
+}
+
+fn decimals_of(entry: Entry) -> u8
+    ensures { λ r. ⌜ r ≡ decimalsOf entry ⌝ }
+{
+    let Entry::Found(row) = entry else {
+        return 0;
+    };
+    row.decimals
+}
+
+// Type 4.
+fn store_offer(message: Message, entry: Entry, offer: Offer) -> Effect
+    ensures { λ r. ⌜ r ≡ store message entry offer ⌝ }
+{
+    let Offer::Held { identifier, value } = offer else {
+        return silent();
+    };
+    if identifier == message.identifier {
+        puts(message, value, decimals_of(entry))
+    } else {
+        silent()
+    }
+}
+
+// A message for this card, by its type.
+fn serve(message: Message, entry: Entry, offer: Offer, value: i32, body: Body) -> Effect
+    ensures { λ r. ⌜ r ≡ serve message entry offer value body ⌝ }
+{
+    match body {
+        Body::Status => says(message, Mark::Accepted, Content::Empty),
+        Body::Query => query(message, entry, value),
+        Body::Up => up(message, entry, value),
+        Body::Down => down(message, entry, value),
+        Body::Set { number, decimals } => set(message, entry, value, number, decimals),
+        Body::Store => store_offer(message, entry, offer),
+    }
+}
+
+// The value stored at a place.
+fn value_at(values: &[i32], place: u8) -> i32
+    ensures { λ r. ⌜ r ≡ getD (now (values .entry)) place (pos 0) ⌝ }
+{
+    let at = place as usize;
+    if at < values.len() { values[at] } else { 0 }
+}
+
+// What a heard message leads to, at a card with this letter, address and offer.
+pub fn act<'a>(
+    letter: u8,
+    address: u8,
+    offer: Offer,
+    bench: &'a [i32],
+    maker: &'a [i32],
+    values: &[i32],
+    message: Message,
+) -> Effect
+    ensures { λ r. ⌜ r ≡ act (now (bench .entry)) (now (maker .entry)) letter address offer (now (values .entry)) message ⌝ }
+{
+    if (message.letter == letter) & (message.address == address) {
+        let identifier = message.identifier;
+        let entry = sheet::find(bench, maker, identifier);
+        let value = value_at(values, identifier);
+        let body = message.body;
+        serve(message, entry, offer, value, body)
+    } else {
+        silent()
+    }
+}
