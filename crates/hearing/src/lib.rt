@@ -6,6 +6,7 @@ ghost use Rattle.refusal.specs.Refusal.{outcomeOf};
 ghost use Rattle.refusal.specs.Call.{laid};
 ghost use Rattle.wire.specs.Line.{placed};
 ghost use Rattle.hearing.specs.Hearing.{none, added, openOf, opening, continuing, actionOf, perform, hear};
+ghost use Rattle.hearing.specs.Sound.{plain, zeros, soundPending};
 ghost use Rattle.hearing.specs.Normal.{worth, normal, normalCall, countOf};
 ghost use Rattle.message.specs.Scan.{parse};
 use message::Message;
@@ -83,6 +84,21 @@ impl Pending {
         } else {
             continuing(received)
         }
+    }
+
+    // 0 to 10 seven-bit characters without `*`, the first `L` or `R`, and 0 behind.
+    pub fn is_sound(self) -> bool
+        ensures { λ r. ⌜ r ≡ soundPending self ⌝ }
+    {
+        let chars = self.chars;
+        let len = self.len;
+        if MOST < len {
+            return false;
+        }
+        if !(plain(&chars[..len]) & zeros(&chars[len..])) {
+            return false;
+        }
+        (len == 0) | message::is_letter(chars[0])
     }
 }
 
@@ -245,4 +261,31 @@ pub fn normal_form(words: &[u16], out: &mut [u16]) -> Written
     };
     fill(words, out);
     Written::Wrote(n)
+}
+
+fn plain(chars: &[u8]) -> bool
+    ensures { λ r. ⌜ r ≡ plain (now (chars .entry)) ⌝ }
+{
+    let mut i = 0;
+    while i < chars.len() {
+        let c = chars[i];
+        if !((c < 128) & (c != b'*')) {
+            return false;
+        }
+        i += 1;
+    }
+    true
+}
+
+fn zeros(chars: &[u8]) -> bool
+    ensures { λ r. ⌜ r ≡ zeros (now (chars .entry)) ⌝ }
+{
+    let mut i = 0;
+    while i < chars.len() {
+        if chars[i] != 0 {
+            return false;
+        }
+        i += 1;
+    }
+    true
 }

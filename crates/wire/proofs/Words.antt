@@ -7,13 +7,13 @@ use Prim.Native.Nat.{ℕ, _+_, _*_, _%_, _<_, _≤_}
 use Prim.Native.Char.{code}
 use native.Mathlib.Numerals.{add-one}
 use native.Mathlib.Omega.{arith}
-use borrow.Author.Tests.{eqb-true, ltb-true, le-leb, lt-leb, lt-ltb}
+use borrow.Author.Tests.{eqb-true, ltb-true}
 use lib.Count.{ones, onesIn}
-use lib.Dec.{ltb, leb, eqb}
+use lib.Dec.{ltb, eqb}
 use lib.ListN.{length, getD, drop, drop-of-length-le, length-map}
 use lib.Seq.{drop-cons}
 use Rattle.refusal.proofs.Logic.{ands, choice, below, allBelow}
-use Rattle.wire.specs.Word.{evenParity, withParity, received, travelling, validWords}
+use Rattle.wire.specs.Word.{evenParity, withParity, received, travelling, every}
 use Rattle.wire.specs.declared.Received.{Received}
 use Rattle.wire.specs.declared.Received.the-variants.{Character, Nothing}
 
@@ -102,17 +102,17 @@ pub travelling-length : (cs : List ℕ) → length (travelling cs) ≡ length cs
 unfolding travelling
 travelling-length cs = length-map cs withParity
 
--- ---- words from an index on
+-- ---- a test of each, from an index on
 
-module _ (ws : List ℕ) (i : ℕ) (h : i < length ws) where
-  pub words-more : getD ws i 0 ≤ 256 → validWords (drop i ws) ≡ validWords (drop (i + 1) ws)
-  unfolding validWords
-  words-more e = rw (add-one, drop-cons ws i 0 h) (rw (le-leb _ _ e))
+module _ (f : ℕ → Bool) (xs : List ℕ) (i : ℕ) (h : i < length xs) where
+  pub every-more : f (getD xs i 0) ≡ true → every f (drop i xs) ≡ every f (drop (i + 1) xs)
+  unfolding every
+  every-more e = rw (add-one, drop-cons xs i 0 h) (rw e)
 
-  pub words-bad : 256 < getD ws i 0 → validWords (drop i ws) ≡ false
-  unfolding validWords
-  words-bad e = rw (drop-cons ws i 0 h) (rw (lt-leb _ _ e))
+  pub every-not : f (getD xs i 0) ≡ false → every f (drop i xs) ≡ false
+  unfolding every
+  every-not e = rw (drop-cons xs i 0 h) (rw e)
 
-pub words-done : (ws : List ℕ) (i : ℕ) → length ws ≤ i → validWords (drop i ws) ≡ true
-unfolding validWords
-words-done ws i h = rw (drop-of-length-le ws h)
+pub every-done : (f : ℕ → Bool) (xs : List ℕ) (i : ℕ) → length xs ≤ i → every f (drop i xs) ≡ true
+unfolding every
+every-done f xs i h = rw (drop-of-length-le xs h)

@@ -24,7 +24,11 @@ received w = cond (ltb w 256 && evenParity w) (Character (w % 128)) Nothing
 unfoldable pub travelling : List ℕ → List ℕ
 travelling cs = map withParity cs
 
+-- each passes the test
+unfoldable pub every : (ℕ → Bool) → List ℕ → Bool
+every f [] = true
+every f (x ∷ xs) = f x && every f xs
+
 -- document 01, number 4: no word lent is above 256
 unfoldable pub validWords : List ℕ → Bool
-validWords [] = true
-validWords (w ∷ ws) = leb w 256 && validWords ws
+validWords ws = every (λ (w : ℕ). leb w 256) ws

@@ -1,0 +1,157 @@
+-- What the loop of a run carries from word to word, in tail style: what is played from here on, behind what is written, is what is
+-- played from the start. Assumes nothing.
+use mathlib.Core.Path.{_≡_, refl, sym, ap, subst, _∙_}
+use mathlib.Core.Bool.{Bool, true, false, cond}
+use mathlib.Core.List.{List, [], _∷_, _++_, append-nil, append-assoc}
+use Prim.Native.Nat.{ℕ, suc, _+_, _-_, _≤_, _<_}
+use native.Mathlib.Nat.{zero-add}
+use native.Mathlib.Numerals.{add-one}
+use native.Mathlib.Omega.{arith}
+use borrow.Author.Tests.{le-leb, lt-leb, leb-true, leb-false}
+use lib.IntN.{ℤ}
+use lib.ListN.{length, getD, take, drop, length-append, take-append-drop, drop-of-length-le}
+use lib.Seq.{paste, length-paste, take-paste, drop-paste, drop-cons, drop-drop, take-length, length-take-le}
+use Rattle.refusal.specs.Refusal.{gave}
+use Rattle.refusal.specs.Call.{laid}
+use Rattle.wire.specs.declared.Line.{Line}
+use Rattle.wire.specs.Line.{bytesOf, fitsAt, placed}
+use Rattle.wire.proofs.Lines.{placed-paste}
+use Rattle.card.specs.declared.Card.{Card}
+use Rattle.card.specs.declared.Turn.{Turn}
+use Rattle.card.specs.declared.Ran.{Ran}
+use Rattle.card.specs.declared.Taken.the-variants as taken
+use Rattle.card.specs.Turn.{turn, stored, Played, stopped, after, play}
+use Rattle.card.specs.Calls.{Ends}
+
+-- the words already taken, n of them, were answered with these bytes
+abbrev pub onward : List ℕ → ℕ → Played → Played
+onward b n p = record { card = p .card; values = p .values; bytes = b ++ p .bytes; taken = n + p .taken }
+
+nothing-yet : (p : Played) → p ≡ onward [] 0 p
+nothing-yet p = λ j. record { card = p .card; values = p .values; bytes = p .bytes; taken = sym (zero-add (p .taken)) j }
+
+regroup : (x b y : List ℕ) (i : ℕ) (p : Played) → y ≡ x ++ b → onward x i (after b p) ≡ onward y (i + 1) p
+regroup x b y i p e =
+    let t : i + suc (p .taken) ≡ i + 1 + p .taken = omega arith in
+    let l : x ++ (b ++ p .bytes) ≡ y ++ p .bytes = sym (append-assoc x b (p .bytes)) ∙ ap (λ (m : List ℕ). m ++ p .bytes) (sym e) in
+    λ j. record { card = p .card; values = p .values; bytes = l j; taken = t j }
+
+pub record Carried (bench maker : List ℤ) (c₀ : Card) (v₀ : List ℤ) (out₀ ws : List ℕ) (c : Card) (v : List ℤ) (out : List ℕ) (at i : ℕ) : Type 0 where
+  pub i-in : i ≤ length ws
+  pub at-in : at ≤ length out₀
+  pub out-long : length out ≡ length out₀
+  pub values-long : length v ≡ length v₀
+  pub behind : drop at out ≡ drop at out₀
+  pub whole : play bench maker c₀ v₀ (length out₀) ws ≡ onward (take at out) i (play bench maker c v (length out₀ - at) (drop i ws))
+
+module _ (bench maker : List ℤ) (c₀ : Card) (v₀ : List ℤ) (out₀ ws : List ℕ) where
+  pub starts : Carried bench maker c₀ v₀ out₀ ws c₀ v₀ out₀ 0 0
+  starts = record {
+    i-in = omega arith;
+    at-in = omega arith;
+    out-long = refl;
+    values-long = refl;
+    behind = refl;
+    whole =
+        let e : length out₀ ≡ length out₀ - 0 = omega arith in
+        nothing-yet (play bench maker c₀ v₀ (length out₀) ws) ∙ ap (λ (r : ℕ). onward [] 0 (play bench maker c₀ v₀ r ws)) e;
+  }
+
+  module _ (c : Card) (v : List ℤ) (out : List ℕ) (at i : ℕ) (k : Carried bench maker c₀ v₀ out₀ ws c v out at i) where
+    -- the next word's turn
+    abbrev next : Turn
+    next = turn bench maker c v (getD ws i 0)
+
+    goes : i < length ws → length (bytesOf (next .reply)) ≤ length out₀ - at
+        → play bench maker c v (length out₀ - at) (drop i ws) ≡ after (bytesOf (next .reply)) (play bench maker (next .card) (stored v (next .store)) (length out₀ - at - length (bytesOf (next .reply))) (drop (suc i) ws))
+    unfolding play
+    goes h r = rw (drop-cons ws i 0 h) (rw (le-leb _ _ r))
+
+    stays : i < length ws → length out₀ - at < length (bytesOf (next .reply)) → play bench maker c v (length out₀ - at) (drop i ws) ≡ stopped c v
+    unfolding play
+    stays h r = rw (drop-cons ws i 0 h) (rw (lt-leb _ _ r))
+
+    pub ends : length ws ≤ i → play bench maker c v (length out₀ - at) (drop i ws) ≡ stopped c v
+    unfolding play
+    ends h = rw (drop-of-length-le ws h)
+
+    taken-turn : i < length ws → length (bytesOf (next .reply)) ≤ length out₀ - at → length (stored v (next .store)) ≡ length v
+        → Carried bench maker c₀ v₀ out₀ ws (next .card) (stored v (next .store)) (placed (bytesOf (next .reply)) at out) (at + length (bytesOf (next .reply))) (i + 1)
+    taken-turn h r l =
+        let b : List ℕ = bytesOf (next .reply) in
+        let n : ℕ = length b in
+        let long = k .out-long in
+        let at-in = k .at-in in
+        let fits : at + n ≤ length out = omega arith in
+        let room : at ≤ length out = omega arith in
+        let all : n ≤ n = omega arith in
+        let e : placed b at out ≡ paste out at b n = placed-paste b at out in
+        let p : Played = play bench maker (next .card) (stored v (next .store)) (length out₀ - (at + n)) (drop (i + 1) ws) in
+        let less : length out₀ - at - n ≡ length out₀ - (at + n) = omega arith in
+        record {
+          i-in = omega arith;
+          at-in = omega arith;
+          out-long = ap length e ∙ length-paste out at b n fits all ∙ k .out-long;
+          values-long = l ∙ k .values-long;
+          behind = ap (drop (at + n)) e ∙ drop-paste out at b n room all ∙ sym (drop-drop n at out) ∙ ap (drop n) (k .behind) ∙ drop-drop n at out₀;
+          whole =
+              k .whole
+              ∙ ap (onward (take at out) i) (goes h r)
+              ∙ ap (λ (m : ℕ). onward (take at out) i (after b (play bench maker (next .card) (stored v (next .store)) m (drop (suc i) ws)))) less
+              ∙ ap (λ (m : ℕ). onward (take at out) i (after b (play bench maker (next .card) (stored v (next .store)) (length out₀ - (at + n)) (drop m ws)))) (sym (add-one i))
+              ∙ regroup (take at out) b (take (at + n) (placed b at out)) i p (ap (take (at + n)) e ∙ take-paste out at b n room all ∙ ap (λ (m : List ℕ). take at out ++ m) (take-length b));
+        }
+
+    -- the same, as the code has it: the turn t, the bytes that were placed, and the values and the buffer after the two writes
+    module _ (t : Turn) (e : t ≡ next) (n : ℕ) (xs : List ℕ) (en : n ≡ length (bytesOf (t .reply))) (ex : xs ≡ bytesOf (t .reply)) (h : i < length ws) where
+      fits-is : fitsAt xs at out ≡ true → length (bytesOf (next .reply)) ≤ length out₀ - at
+      unfolding fitsAt
+      fits-is f =
+          let q : length xs ≡ length (bytesOf (next .reply)) = ap length (ex ∙ ap (λ (x : Turn). bytesOf (x .reply)) e) in
+          let long = k .out-long in
+          omega (arith, leb-true (at + length xs) (length out) f)
+
+      pub turned : (v′ : List ℤ) (out′ : List ℕ) → fitsAt xs at out ≡ true → v′ ≡ stored v (t .store) → length v′ ≡ length v → out′ ≡ placed xs at out
+          → Carried bench maker c₀ v₀ out₀ ws (t .card) v′ out′ (at + n) (i + 1)
+      turned v′ out′ f ev lv eo =
+          let q : xs ≡ bytesOf (next .reply) = ex ∙ ap (λ (x : Turn). bytesOf (x .reply)) e in
+          let m : length (bytesOf (next .reply)) ≡ n = sym (en ∙ ap (λ (x : Turn). length (bytesOf (x .reply))) e) in
+          let w : v′ ≡ stored v (next .store) = ev ∙ ap (λ (x : Turn). stored v (x .store)) e in
+          let o : out′ ≡ placed (bytesOf (next .reply)) at out = eo ∙ ap (λ (l : List ℕ). placed l at out) q in
+          subst (λ (x : Card). Carried bench maker c₀ v₀ out₀ ws x v′ out′ (at + n) (i + 1)) (sym (ap (λ (x : Turn). x .card) e))
+          (subst (λ (x : ℕ). Carried bench maker c₀ v₀ out₀ ws (next .card) v′ out′ (at + x) (i + 1)) m
+          (subst (λ (x : List ℤ). Carried bench maker c₀ v₀ out₀ ws (next .card) x out′ (at + length (bytesOf (next .reply))) (i + 1)) (sym w)
+          (subst (λ (x : List ℕ). Carried bench maker c₀ v₀ out₀ ws (next .card) (stored v (next .store)) x (at + length (bytesOf (next .reply))) (i + 1)) (sym o)
+          (taken-turn h (fits-is f) (ap length (sym w) ∙ lv)))))
+
+      -- no room for the next word's reply
+      pub no-room : fitsAt xs at out ≡ false → play bench maker c v (length out₀ - at) (drop i ws) ≡ stopped c v
+      unfolding fitsAt
+      no-room f =
+          let q : length xs ≡ length (bytesOf (next .reply)) = ap length (ex ∙ ap (λ (x : Turn). bytesOf (x .reply)) e) in
+          let long = k .out-long in
+          stays h (omega (arith, leb-false (at + length xs) (length out) f))
+
+    -- the run ends here: nothing more is taken
+    pub over : play bench maker c v (length out₀ - at) (drop i ws) ≡ stopped c v → Ends (play bench maker c₀ v₀ (length out₀) ws) out₀ (record { card = c; answer = taken.Took i at }) v out
+    unfolding laid
+    over e =
+        let w : play bench maker c₀ v₀ (length out₀) ws ≡ onward (take at out) i (stopped c v) = k .whole ∙ ap (onward (take at out) i) e in
+        let long = k .out-long in
+        let at-in = k .at-in in
+        let n : length (take at out ++ []) ≡ at = ap length (append-nil (take at out)) ∙ length-take-le at out (omega arith) in
+        let z : i + 0 ≡ i = omega arith in
+        subst (λ (p : Played). Ends p out₀ (record { card = c; answer = taken.Took i at }) v out) (sym w)
+        (record {
+          card-is = refl;
+          answer-is = λ j. gave (record { words = sym z j; bytes = sym n j });
+          values-are = refl;
+          buffer-is = laid-end at out out₀ (k .behind) n;
+        })
+      where
+        laid-end : (at : ℕ) (out out₀ : List ℕ) → drop at out ≡ drop at out₀ → length (take at out ++ []) ≡ at → out ≡ laid (take at out ++ []) out₀
+        laid-end at out out₀ behind n =
+            sym (take-append-drop at out)
+            ∙ ap (λ (m : List ℕ). take at out ++ m) behind
+            ∙ ap (λ (m : List ℕ). m ++ drop at out₀) (sym (append-nil (take at out)))
+            ∙ ap (λ (m : ℕ). (take at out ++ []) ++ drop m out₀) (sym n)

@@ -1,0 +1,63 @@
+-- `card::keep` meets its contract: a place behind the end is not there to be set. Assumes nothing.
+use mathlib.Core.Path.{_≡_, refl, sym, ap, ap₂, _∙_}
+use lib.IntN.{ℤ}
+use lib.ListN.{set}
+use lib.Seq.{set-out}
+use mir.Syntax.{w32}
+use mir.Val.{SFits}
+use Rattle.number.proofs.Signed.{rd-is}
+use Rattle.card.specs.Turn.{stored}
+use borrow.Author.Needs.{needs}
+use Rattle.card.proofs.keep.Statement.{statement}
+use Rattle.card.proofs.keep.Tie as tie
+
+enum-known-store : tie.Need-enum-known-store
+enum-known-store c = search needs
+
+enum-told : tie.Need-enum-told
+enum-told c = search needs
+
+returns : tie.Need-returns
+unfolding stored
+returns c = sym (rw (c .enum-told .given .1))
+
+cast-at : tie.Need-cast-at
+cast-at c = search needs
+
+mul-value : tie.Need-mul-value
+mul-value c = search needs
+
+slice-set-from-value : tie.Need-slice-set-from-value
+slice-set-from-value c = search needs
+
+same-length : tie.Need-same-length
+same-length c = search needs
+
+returns-2 : tie.Need-returns-2
+unfolding stored
+returns-2 c =
+    let o = c .before .before .store .given in
+    let s = c .before .before .before .before in
+    let f : SFits w32 (o .0 .1 .0) = record { sfits = c .before .known-told .given .1 .0 .1 } in
+    ap (set (s .args .values .now) (o .0 .0)) (rd-is f) ∙ sym (rw (o .1))
+
+returns-3 : tie.Need-returns-3
+unfolding stored
+returns-3 c =
+    let o = c .before .before .store .given in
+    let s = c .before .before .before .before in
+    sym (set-out (s .args .values .now) (o .0 .0) (o .0 .1 .0) (c .if1 .left)) ∙ sym (rw (o .1))
+
+pub keep-spec : {M : Type 1} → statement M
+keep-spec =
+    tie.close
+    (tie.spec
+    enum-known-store
+    enum-told
+    returns
+    cast-at
+    mul-value
+    slice-set-from-value
+    same-length
+    returns-2
+    returns-3)

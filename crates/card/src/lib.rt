@@ -1,0 +1,373 @@
+// The card: what a word does to it, one word at a time, in place, and a run of words.
+ghost use mathlib.Core.Path.{_≡_};
+ghost use Prim.Native.Nat.{_+_, _≤_};
+ghost use lib.IntN.{pos};
+ghost use lib.ListN.{length, getD};
+ghost use mathlib.Core.Bool.{true};
+ghost use Rattle.wire.specs.Line.{bytesOf};
+ghost use Rattle.hearing.specs.Hearing.{none, added};
+ghost use Rattle.card.specs.Turn.{replyOf, effectOf, withBoth, turned, stays, turn, stored, play};
+ghost use Rattle.card.specs.Sound.{soundCard, offerable, soundOffer, verdictOf};
+ghost use Rattle.card.specs.Calls.{stepBy, stepCall, Ends, runCall, outcomeOf};
+ghost use Rattle.refusal.specs.Refusal.{outcomeOf as writtenOf};
+use act::Effect;
+use act::Offer;
+use act::Said;
+use act::Store;
+use hearing::Action;
+use hearing::Pending;
+use message::Parsed;
+use refusal::Refusal;
+use refusal::Written;
+use sheet::Entry;
+use wire::Line;
+
+pub struct Card {
+    pub letter: u8,
+    pub address: u8,
+    pub pending: Pending,
+    pub offer: Offer,
+}
+
+// What a word leads to, decided before anything is written.
+pub struct Turn {
+    pub card: Card,
+    pub reply: Line,
+    pub store: Store,
+}
+
+// Whether a call can be served.
+pub enum Verdict {
+    Refused(Refusal),
+    Sound,
+}
+
+// What the single word's calls give: the card beside their answer.
+pub struct Stepped {
+    pub card: Card,
+    pub answer: Written,
+}
+
+// Words taken and bytes written.
+pub enum Taken {
+    Refused(Refusal),
+    Took { words: usize, bytes: usize },
+}
+
+// What a run gives: the card beside its answer.
+pub struct Ran {
+    pub card: Card,
+    pub answer: Taken,
+}
+
+impl Card {
+    // A message opened by its letter.
+    pub fn open(self, c: u8) -> Card
+        ensures { λ r. ⌜ r ≡ withBoth self (added none c) (self .offer) ⌝ }
+    {
+        let pending = Pending::new().add(c);
+        let offer = self.offer;
+        Card {
+            letter: self.letter,
+            address: self.address,
+            pending,
+            offer,
+        }
+    }
+
+    // One character more.
+    pub fn add(self, c: u8) -> Card
+        ensures { λ r. ⌜ r ≡ withBoth self (added (self .pending) c) (self .offer) ⌝ }
+    {
+        let held = self.pending;
+        let pending = held.add(c);
+        let offer = self.offer;
+        Card {
+            letter: self.letter,
+            address: self.address,
+            pending,
+            offer,
+        }
+    }
+
+    // No message open: it was closed, or dropped.
+    pub fn close(self) -> Card
+        ensures { λ r. ⌜ r ≡ withBoth self none (self .offer) ⌝ }
+    {
+        let pending = Pending::new();
+        let offer = self.offer;
+        Card {
+            letter: self.letter,
+            address: self.address,
+            pending,
+            offer,
+        }
+    }
+
+    pub fn drop_offer(self) -> Card
+        ensures { λ r. ⌜ r ≡ withBoth self (self .pending) Offer.Nothing ⌝ }
+    {
+        let pending = self.pending;
+        let offer = Offer::Nothing;
+        Card {
+            letter: self.letter,
+            address: self.address,
+            pending,
+            offer,
+        }
+    }
+
+    // The card with what a message has left on offer.
+    pub fn hold(self, offer: Offer) -> Card
+        ensures { λ r. ⌜ r ≡ withBoth self (self .pending) offer ⌝ }
+    {
+        let Offer::Held { identifier, value } = offer else {
+            return self.drop_offer();
+        };
+        let pending = self.pending;
+        let offer = Offer::Held { identifier, value };
+        Card {
+            letter: self.letter,
+            address: self.address,
+            pending,
+            offer,
+        }
+    }
+}
+
+// The reply as it travels; an empty line is silence.
+fn reply_of(said: Said) -> Line
+    ensures { λ r. ⌜ r ≡ replyOf said ⌝ }
+{
+    match said {
+        Said::Silence => Line::new(),
+        Said::Reply(answer) => reply::spell(answer),
+    }
+}
+
+// A word that closed no heard message: nothing is said, nothing stored.
+fn quiet(card: Card) -> Turn
+    ensures { λ r. ⌜ r ≡ stays card ⌝ }
+{
+    let reply = Line::new();
+    let store = Store::Keep;
+    Turn { card, reply, store }
+}
+
+// A message was closed.
+fn closed<'a>(
+    card: Card,
+    bench: &'a [i32],
+    maker: &'a [i32],
+    values: &[i32],
+    parsed: Parsed,
+) -> Turn
+    ensures { λ r. ⌜ r ≡ turned card none (effectOf (now (bench .entry)) (now (maker .entry)) card (now (values .entry)) parsed) ⌝ }
+{
+    let Parsed::Heard(message) = parsed else {
+        return quiet(card.close());
+    };
+    let held = card.offer;
+    let effect = act::act(
+        card.letter,
+        card.address,
+        held,
+        bench,
+        maker,
+        values,
+        message,
+    );
+    let said = effect.said;
+    let reply = reply_of(said);
+    let offer = effect.offer;
+    let card = card.close().hold(offer);
+    let store = effect.store;
+    Turn { card, reply, store }
+}
+
+// What a word leads to. Nothing is written yet.
+fn decide<'a>(card: Card, bench: &'a [i32], maker: &'a [i32], values: &[i32], word: u16) -> Turn
+    ensures { λ r. ⌜ r ≡ turn (now (bench .entry)) (now (maker .entry)) card (now (values .entry)) word ⌝ }
+{
+    let pending = card.pending;
+    let action = pending.action(word);
+    match action {
+        Action::Ignore => quiet(card),
+        Action::Open(c) => quiet(card.open(c)),
+        Action::Add(c) => quiet(card.add(c)),
+        Action::Close => closed(card, bench, maker, values, pending.close()),
+        Action::Drop => quiet(card.close()),
+    }
+}
+
+// The one write to the values.
+fn keep(values: &mut [i32], store: Store)
+    ensures { λ _. ⌜ now (values .exit) ≡ stored (now (values .entry)) store ⌝ }
+{
+    let Store::Put { place, value } = store else {
+        return;
+    };
+    let at = place as usize;
+    if at < values.len() {
+        values[at] = value;
+    }
+}
+
+// The card by itself: letter, address, open message.
+pub fn sound_card(card: Card) -> bool
+    ensures { λ r. ⌜ r ≡ soundCard card ⌝ }
+{
+    let pending = card.pending;
+    message::is_letter(card.letter) & message::is_address(card.address) & pending.is_sound()
+}
+
+// An offer that a Type 3 message can leave under these sheets.
+pub fn sound_offer<'a>(bench: &'a [i32], maker: &'a [i32], offer: Offer) -> bool
+    ensures { λ r. ⌜ r ≡ soundOffer (now (bench .entry)) (now (maker .entry)) offer ⌝ }
+{
+    let Offer::Held { identifier, value } = offer else {
+        return true;
+    };
+    let Entry::Found(row) = sheet::find(bench, maker, identifier) else {
+        return false;
+    };
+    sheet::is_writable(row) & sheet::fits_row(row, value)
+}
+
+// Numbers 1, 2, 1 (the offer), 3 and 4, in this order.
+pub fn check<'a>(
+    card: Card,
+    bench: &'a [i32],
+    maker: &'a [i32],
+    values: &[i32],
+    words: &[u16],
+) -> Verdict
+    ensures { λ r. ⌜ r ≡ verdictOf card (now (bench .entry)) (now (maker .entry)) (now (values .entry)) (now (words .entry)) ⌝ }
+{
+    if !sound_card(card) {
+        return Verdict::Refused(Refusal::UnsoundCard);
+    }
+    if !(sheet::sound_sheet(bench) & sheet::sound_sheet(maker)) {
+        return Verdict::Refused(Refusal::UnsoundSheet);
+    }
+    let offer = card.offer;
+    if !sound_offer(bench, maker, offer) {
+        return Verdict::Refused(Refusal::UnsoundCard);
+    }
+    if !sheet::sound_values(bench, maker, values) {
+        return Verdict::Refused(Refusal::UnsoundValues);
+    }
+    if !wire::valid_words(words) {
+        return Verdict::Refused(Refusal::WordAbove256);
+    }
+    Verdict::Sound
+}
+
+// The single word of a call that passed: number 5, or the word's reply and what it stores.
+fn take<'a>(
+    card: Card,
+    bench: &'a [i32],
+    maker: &'a [i32],
+    values: &mut [i32],
+    word: u16,
+    out: &mut [u8],
+) -> Stepped
+    ensures { λ r. ⌜ (r .card ≡ stepBy Verdict.Sound (turn (now (bench .entry)) (now (maker .entry)) card (now (values .entry)) word) card (now (values .entry)) (now (out .entry)) .card)
+        × (writtenOf (r .answer) ≡ stepBy Verdict.Sound (turn (now (bench .entry)) (now (maker .entry)) card (now (values .entry)) word) card (now (values .entry)) (now (out .entry)) .outcome)
+        × (now (values .exit) ≡ stepBy Verdict.Sound (turn (now (bench .entry)) (now (maker .entry)) card (now (values .entry)) word) card (now (values .entry)) (now (out .entry)) .values)
+        × (now (out .exit) ≡ stepBy Verdict.Sound (turn (now (bench .entry)) (now (maker .entry)) card (now (values .entry)) word) card (now (values .entry)) (now (out .entry)) .buffer) ⌝ }
+{
+    if out.len() < wire::LONGEST {
+        let answer = Written::Refused(Refusal::RoomTooShort);
+        return Stepped { card, answer };
+    }
+    let turn = decide(card, bench, maker, values, word);
+    let reply = turn.reply;
+    let answer = reply.write(out);
+    let store = turn.store;
+    keep(values, store);
+    let card = turn.card;
+    Stepped { card, answer }
+}
+
+// One word: its reply, of at most LONGEST bytes, stands at the front of the buffer afterwards.
+pub fn step<'a>(
+    card: Card,
+    bench: &'a [i32],
+    maker: &'a [i32],
+    values: &mut [i32],
+    word: u16,
+    out: &mut [u8],
+) -> Stepped
+    ensures { λ r. ⌜ (r .card ≡ stepCall card (now (bench .entry)) (now (maker .entry)) (now (values .entry)) word (now (out .entry)) .card)
+        × (writtenOf (r .answer) ≡ stepCall card (now (bench .entry)) (now (maker .entry)) (now (values .entry)) word (now (out .entry)) .outcome)
+        × (now (values .exit) ≡ stepCall card (now (bench .entry)) (now (maker .entry)) (now (values .entry)) word (now (out .entry)) .values)
+        × (now (out .exit) ≡ stepCall card (now (bench .entry)) (now (maker .entry)) (now (values .entry)) word (now (out .entry)) .buffer) ⌝ }
+{
+    let words = [word];
+    match check(card, bench, maker, values, &words) {
+        Verdict::Refused(refusal) => {
+            let answer = Written::Refused(refusal);
+            Stepped { card, answer }
+        }
+        Verdict::Sound => take(card, bench, maker, values, word, out),
+    }
+}
+
+// The run of a call that passed.
+fn take_all<'a>(
+    card: Card,
+    bench: &'a [i32],
+    maker: &'a [i32],
+    values: &mut [i32],
+    words: &[u16],
+    out: &mut [u8],
+) -> Ran
+    ensures { λ r. ⌜ Ends (play (now (bench .entry)) (now (maker .entry)) card (now (values .entry)) (length (now (out .entry))) (now (words .entry))) (now (out .entry)) r (now (values .exit)) (now (out .exit)) ⌝ }
+{
+    let mut held = card;
+    let mut at = 0;
+    let mut i = 0;
+    while i < words.len() {
+        let turn = decide(held, bench, maker, values, words[i]);
+        let reply = turn.reply;
+        let bytes = reply.bytes;
+        let n = reply.count();
+        if !wire::place(&bytes[..n], out, at) {
+            break;
+        }
+        let store = turn.store;
+        keep(values, store);
+        held = turn.card;
+        at += n;
+        i += 1;
+    }
+    let answer = Taken::Took {
+        words: i,
+        bytes: at,
+    };
+    Ran { card: held, answer }
+}
+
+// Words one after the other, until all are taken or the next reply no longer fits.
+pub fn run<'a>(
+    card: Card,
+    bench: &'a [i32],
+    maker: &'a [i32],
+    values: &mut [i32],
+    words: &[u16],
+    out: &mut [u8],
+) -> Ran
+    ensures { λ r. ⌜ (r .card ≡ runCall card (now (bench .entry)) (now (maker .entry)) (now (values .entry)) (now (words .entry)) (now (out .entry)) .card)
+        × (outcomeOf (r .answer) ≡ runCall card (now (bench .entry)) (now (maker .entry)) (now (values .entry)) (now (words .entry)) (now (out .entry)) .outcome)
+        × (now (values .exit) ≡ runCall card (now (bench .entry)) (now (maker .entry)) (now (values .entry)) (now (words .entry)) (now (out .entry)) .values)
+        × (now (out .exit) ≡ runCall card (now (bench .entry)) (now (maker .entry)) (now (values .entry)) (now (words .entry)) (now (out .entry)) .buffer) ⌝ }
+{
+    match check(card, bench, maker, values, words) {
+        Verdict::Refused(refusal) => {
+            let answer = Taken::Refused(refusal);
+            Ran { card, answer }
+        }
+        Verdict::Sound => take_all(card, bench, maker, values, words, out),
+    }
+}

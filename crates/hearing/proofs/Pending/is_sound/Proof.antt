@@ -1,0 +1,86 @@
+-- `hearing::Pending::is_sound` meets its contract: the tests are the definition's. Assumes nothing.
+use mathlib.Core.Path.{_≡_, sym, ap, ap₂, _∙_}
+use mathlib.Core.Bool.{Bool, true, false, _&&_}
+use Prim.Native.Nat.{_≤_, _-_}
+use native.Mathlib.Omega.{arith}
+use borrow.Author.Tests.{le-leb, lt-leb, not-true, not-false}
+use lib.ListN.{length, take, drop, length-drop}
+use lib.Seq.{length-take-le, take-all}
+use Rattle.hearing.specs.Sound.{plain, zeros, soundPending}
+use borrow.Author.Needs.{needs}
+use Rattle.hearing.proofs.Pending.is_sound.Statement.{statement}
+use Rattle.hearing.proofs.Pending.is_sound.Tie as tie
+
+returns : tie.Need-returns
+unfolding soundPending
+returns c = rw (lt-leb _ _ (c .if1 .taken))
+
+array-share-prefix-chars : tie.Need-array-share-prefix-chars
+array-share-prefix-chars c =
+    let h : length (c .before .before .args .self .chars) ≡ 10 = search needs in
+    omega arith
+
+slice-aggregate-plain : tie.Need-slice-aggregate-plain
+slice-aggregate-plain c =
+    let p = c .before .before .before .args .self in
+    let h : length (p .chars) ≡ 10 = search needs in
+    sym (length-take-le (p .len) (p .chars) (omega arith))
+
+plain-requires : tie.Need-plain-requires
+plain-requires c κs = search needs
+
+part-zeros-start : tie.Need-part-zeros-start
+part-zeros-start c = search needs
+
+part-zeros-end : tie.Need-part-zeros-end
+part-zeros-end c =
+    let h : length (c .before .before .before .before .before .args .self .chars) ≡ 10 = search needs in
+    omega arith
+
+zeros-requires : tie.Need-zeros-requires
+zeros-requires c κs = search needs
+
+-- the part behind the open message is all that is behind
+was : (z : tie.After-zeros)
+    → (plain (take (z .before .before .before .before .before .before .before .args .self .len) (z .before .before .before .before .before .before .before .args .self .chars)) && zeros (drop (z .before .before .before .before .before .before .before .args .self .len) (z .before .before .before .before .before .before .before .args .self .chars)))
+    ≡ (z .before .before .before .plain .result && z .zeros .result)
+was z =
+    let p = z .before .before .before .before .before .before .before .args .self in
+    let h : length (p .chars) ≡ 10 = search needs in
+    sym
+    (ap₂ (λ (x y : Bool). x && y) (z .before .before .before .plain .ensures)
+    (z .zeros .ensures ∙ ap zeros (take-all (10 - p .len) (drop (p .len) (p .chars)) (omega (arith, length-drop (p .len) (p .chars))))))
+
+returns-2 : tie.Need-returns-2
+unfolding soundPending
+returns-2 c =
+    let z = c .before in
+    rw (le-leb _ _ (z .before .before .before .before .before .if1 .left)) (rw (was z ∙ not-true _ (c .if2 .taken)))
+
+array-read-is-letter : tie.Need-array-read-is-letter
+array-read-is-letter c = search needs
+
+is-letter-requires : tie.Need-is-letter-requires
+is-letter-requires c κs = search needs
+
+returns-3 : tie.Need-returns-3
+unfolding soundPending
+returns-3 c =
+    let z = c .before .before in
+    simp (le-leb _ _ (z .before .before .before .before .before .if1 .left), was z ∙ not-false _ (c .before .if2 .left), c .is-letter .ensures)
+
+pub is-sound-spec : {M : Type 1} → statement M
+is-sound-spec =
+    tie.close
+    (tie.spec
+    returns
+    array-share-prefix-chars
+    slice-aggregate-plain
+    plain-requires
+    part-zeros-start
+    part-zeros-end
+    zeros-requires
+    returns-2
+    array-read-is-letter
+    is-letter-requires
+    returns-3)
