@@ -1,3 +1,4 @@
 pub mod Turns
 pub mod Steps
 pub mod Runs
+pub mod Said

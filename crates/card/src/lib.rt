@@ -314,6 +314,26 @@ pub fn step<'a>(
     }
 }
 
+// One word to a card in its own place: the card is loaded, `step` is called, and the card that it gives is stored back.
+pub fn receive<'a>(
+    card: &mut Card,
+    bench: &'a [i32],
+    maker: &'a [i32],
+    values: &mut [i32],
+    word: u16,
+    out: &mut [u8],
+) -> Written
+    ensures { λ r. ⌜ (writtenOf r ≡ stepCall (now (card .entry)) (now (bench .entry)) (now (maker .entry)) (now (values .entry)) word (now (out .entry)) .outcome)
+        × (now (card .exit) ≡ stepCall (now (card .entry)) (now (bench .entry)) (now (maker .entry)) (now (values .entry)) word (now (out .entry)) .card)
+        × (now (values .exit) ≡ stepCall (now (card .entry)) (now (bench .entry)) (now (maker .entry)) (now (values .entry)) word (now (out .entry)) .values)
+        × (now (out .exit) ≡ stepCall (now (card .entry)) (now (bench .entry)) (now (maker .entry)) (now (values .entry)) word (now (out .entry)) .buffer) ⌝ }
+{
+    let before = *card;
+    let stepped = step(before, bench, maker, values, word, out);
+    *card = stepped.card;
+    stepped.answer
+}
+
 // The run of a call that passed.
 fn take_all<'a>(
     card: Card,
