@@ -23,7 +23,7 @@ use Rattle.message.specs.declared.Body.the-variants.{Status, Query, Up, 
 use Rattle.message.specs.declared.Message.{Message}
 use Rattle.message.specs.Message.{star, isAddress, isMessage}
 use Rattle.message.specs.Spell.{spellAddress, spellBody, spellOpen, spell, writeCall}
-use Rattle.message.proofs.Messages.{Parts, PlainChar, Plain, plain-append, plain-digit, plain-identifier, address-most}
+use Rattle.message.proofs.Messages.{Parts, PlainChar, Plain, plain-append, plain-letter, plain-digit, plain-identifier, address-most}
 
 -- ---- its characters
 
@@ -53,6 +53,25 @@ pub plain-rest : (m : Message) → Parts m → Plain (spellAddress (m .address) 
 plain-rest m p =
     plain-append (spellAddress (m .address)) (m .identifier ∷ spellBody (m .body)) (plain-address (m .address) (p .is-address))
     (plain-identifier (m .identifier) (p .is-identifier), plain-body (m .body))
+
+-- all of them, with the letter and the `*`, are of seven bits
+abbrev pub Small : List ℕ → Type 0
+Small [] = Unit {0}
+Small (c ∷ cs) = (c < 128) × Small cs
+
+pub small-append : (xs ys : List ℕ) → Small xs → Small ys → Small (xs ++ ys)
+small-append [] ys p q = q
+small-append (x ∷ xs) ys p q = (p .0, small-append xs ys (p .1) q)
+
+pub plain-small : (cs : List ℕ) → Plain cs → Small cs
+plain-small [] h = tt
+plain-small (c ∷ cs) h = (h .0 .small, plain-small cs (h .1))
+
+pub spell-small : (m : Message) → Parts m → Small (spell m)
+unfolding spell spellOpen
+spell-small m p =
+    small-append (m .letter ∷ (spellAddress (m .address) ++ (m .identifier ∷ spellBody (m .body)))) (star ∷ [])
+    (plain-letter (m .letter) (p .is-letter) .small, plain-small (spellAddress (m .address) ++ (m .identifier ∷ spellBody (m .body))) (plain-rest m p)) (lit< tt, tt)
 
 -- ---- its length, whatever it is
 

@@ -25,7 +25,7 @@ use Rattle.number.proofs.Reading.{read-written}
 use Rattle.message.specs.Message.{star, question, isLetter, isAddress, isIdentifier}
 use Rattle.message.specs.Spell.{spellAddress}
 use Rattle.message.proofs.Messages.{address-most, identifier-no-digit, PlainChar, Plain, plain-append, plain-letter, plain-identifier, plain-digit}
-use Rattle.message.proofs.Spelling.{plain-address, plain-digits}
+use Rattle.message.proofs.Spelling.{plain-address, plain-digits, Small, small-append, plain-small}
 use Rattle.reply.specs.declared.Mark.{Mark}
 use Rattle.reply.specs.declared.Mark.the-variants as mark
 use Rattle.reply.specs.declared.Content.{Content}
@@ -79,22 +79,10 @@ pub character-out : (bs : List ℕ) (k : ℕ) → length bs ≤ k → getD (char
 unfolding charactersOf
 character-out bs k h = List·getD-eq-default (map (λ (b : ℕ). b % 128) bs) 0 (subst (λ (n : ℕ). n ≤ k) (sym (length-map bs (λ (b : ℕ). b % 128))) h)
 
-abbrev pub Small : List ℕ → Type 0
-Small [] = Unit {0}
-Small (c ∷ cs) = (c < 128) × Small cs
-
 pub characters-back : (cs : List ℕ) → Small cs → charactersOf (travelling cs) ≡ cs
 unfolding charactersOf travelling
 characters-back [] h = refl
 characters-back (c ∷ cs) h = ap₂ (λ (x : ℕ) (xs : List ℕ). x ∷ xs) (written-low c (h .0)) (characters-back cs (h .1))
-
-small-append : (xs ys : List ℕ) → Small xs → Small ys → Small (xs ++ ys)
-small-append [] ys p q = q
-small-append (x ∷ xs) ys p q = (p .0, small-append xs ys (p .1) q)
-
-plain-small : (cs : List ℕ) → Plain cs → Small cs
-plain-small [] h = tt
-plain-small (c ∷ cs) h = (h .0 .small, plain-small cs (h .1))
 
 mark-small : (k : Mark) → markOf k < 128
 mark-small mark.Accepted = lit< tt

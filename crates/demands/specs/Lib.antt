@@ -1,0 +1,4 @@
+pub mod Bench
+pub mod Terms
+pub mod Demand2
+pub mod Demand3
