@@ -1,3 +1,5 @@
 pub mod Cases
 pub mod Played
 pub mod Recordings
+pub mod Words
+pub mod Kept
