@@ -3,3 +3,6 @@ pub mod Played
 pub mod Recordings
 pub mod Words
 pub mod Kept
+pub mod Offers
+pub mod Answers
+pub mod Possible
