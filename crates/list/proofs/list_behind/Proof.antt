@@ -1,0 +1,33 @@
+-- `list::list_behind` meets its contract by the bounds of a call of `listing::list`. Assumes nothing.
+use Rattle.list.proofs.Rooms.{in-changed}
+use Rattle.listing.proofs.Bounds.{words-within, lines-within}
+use borrow.Author.Needs.{needs}
+use Rattle.list.proofs.list_behind.Statement.{statement}
+use Rattle.list.proofs.list_behind.Tie as tie
+
+sub-list : tie.Need-sub-list
+sub-list c = search needs
+
+part-list-start : tie.Need-part-list-start
+part-list-start c = search needs
+
+part-list-end : tie.Need-part-list-end
+part-list-end c = search needs
+
+list-requires : tie.Need-list-requires
+list-requires c κs = search needs
+
+same-length : tie.Need-same-length
+same-length c = search needs
+
+returns : tie.Need-returns
+returns c =
+    let l = c .before .before in
+    let s = c .before .before .before .before .before .before in (
+      words-within _ _ _ (l .list .result) (l .list .ensures .0),
+      in-changed (s .args .used) (l .list .result .written) (s .args .out .now) (s .pre) (lines-within _ _ _ (l .list .result) (l .list .ensures .0)) (l .list .last .1 .1 .0) (l .list .kept .1 .1 .0),
+    )
+
+pub list-behind-spec : {M : Type 1} → statement M
+list-behind-spec =
+    tie.close (tie.spec sub-list part-list-start part-list-end list-requires same-length returns)

@@ -1,0 +1,39 @@
+-- `listing::Text::write` meets its contract: what is placed at the front of the buffer is what a call writes. Assumes nothing.
+use mathlib.Core.Path.{sym, ap, _∙_}
+use Rattle.refusal.specs.Refusal.{gave}
+use Rattle.refusal.specs.Call.{Call}
+use Rattle.wire.proofs.Lines.{wrote, wrote-nothing}
+use Rattle.listing.specs.Text.{held}
+use borrow.Author.Needs.{needs}
+use Rattle.listing.proofs.Text.write.Statement.{statement}
+use Rattle.listing.proofs.Text.write.Tie as tie
+
+count-requires : tie.Need-count-requires
+count-requires c κs = search needs
+
+place-requires : tie.Need-place-requires
+place-requires c κs = search needs
+
+same-length : tie.Need-same-length
+same-length c = search needs
+
+returns : tie.Need-returns
+returns c =
+    let a = c .before .before .before .before .before in
+    let p = c .before .before .before .place in
+    let w = wrote (held (a .before .before .args .self)) (a .before .before .args .out .now) (sym (p .ensures .0) ∙ c .if1 .taken) in
+    (ap gave (a .count .ensures) ∙ sym (ap (λ (x : Call). x .outcome) w), p .ensures .1 ∙ sym (ap (λ (x : Call). x .buffer) w))
+
+same-length-2 : tie.Need-same-length-2
+same-length-2 c = search needs
+
+returns-2 : tie.Need-returns-2
+returns-2 c =
+    let a = c .before .before .before .before .before in
+    let p = c .before .before .before .place in
+    let w = wrote-nothing (held (a .before .before .args .self)) (a .before .before .args .out .now) (sym (p .ensures .0) ∙ c .if1 .left) in
+    (sym (ap (λ (x : Call). x .outcome) w), p .ensures .1 ∙ sym (ap (λ (x : Call). x .buffer) w))
+
+pub write-spec : {M : Type 1} → statement M
+write-spec =
+    tie.close (tie.spec count-requires place-requires same-length returns same-length-2 returns-2)

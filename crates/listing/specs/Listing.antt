@@ -1,0 +1,109 @@
+-- The listing of a recording: the whole output for any bytes, and what one call over a buffer of them gives.
+use mathlib.Core.Bool.{Bool, true, false, cond}
+use mathlib.Core.List.{List, [], _∷_, _++_}
+use Prim.Native.Nat.{ℕ, _+_, _-_, _*_, _%_, _^_}
+use lib.Dec.{leb}
+use lib.ListN.{length}
+use Rattle.wire.specs.Text.{chars}
+use Rattle.message.specs.declared.Parsed.{Parsed}
+use Rattle.message.specs.declared.Parsed.the-variants.{Heard, Unheard}
+use Rattle.hearing.specs.Hearing.{none, hear}
+use Rattle.listing.specs.declared.Progress.{Progress}
+use Rattle.listing.specs.declared.Stop.{Stop}
+use Rattle.listing.specs.declared.Stop.the-variants.{Done, Bad, Full}
+use Rattle.listing.specs.declared.Listed.{Listed}
+use Rattle.listing.specs.declared.Step.{Step}
+use Rattle.listing.specs.declared.Ending.{Ending}
+use Rattle.listing.specs.declared.Ending.the-variants as ending
+use Rattle.listing.specs.Line.{decimal, line}
+
+-- document 01: "The first line is always the bytes `AT CARD ID KIND DATA`."
+abbrev pub heading : List ℕ
+heading = chars "AT CARD ID KIND DATA\n"
+
+-- document 01: "two bytes each, low byte first"
+unfoldable pub wordOf : ℕ → ℕ → ℕ
+wordOf low high = low + 256 * high
+
+-- positions and counts have 64 bits: behind 2^64 words they begin again at 0
+unfoldable pub next : ℕ → ℕ
+next n = (n + 1) % 2 ^ 64
+
+-- before the first word
+unfoldable pub start : Progress
+start = record { pending = none; at = 0; count = 0 }
+
+-- document 01: "one line for each heard message"
+unfoldable pub lineOf : ℕ → Parsed → List ℕ
+lineOf at (Heard m) = line at m
+lineOf at Unheard = []
+
+-- document 01: "`END` gives the number of messages"
+unfoldable pub counted : ℕ → Parsed → ℕ
+counted n (Heard m) = next n
+counted n Unheard = n
+
+-- what a word adds to the listing, and how far it is then
+unfoldable pub lineAt : Progress → ℕ → List ℕ
+lineAt p w = lineOf (p .at) (hear (p .pending) w .message)
+
+unfoldable pub after : Progress → ℕ → Progress
+after p w = record { pending = hear (p .pending) w .pending; at = next (p .at); count = counted (p .count) (hear (p .pending) w .message) }
+
+-- document 01: "A word above 256 at position n ends it with `BAD n` in place of END; a lone last byte ends it with `ODD` in that place."
+unfoldable pub lastLine : Ending → List ℕ
+lastLine (ending.End n) = chars "END " ++ (decimal n ++ chars "\n")
+lastLine (ending.Bad n) = chars "BAD " ++ (decimal n ++ chars "\n")
+lastLine ending.Odd = chars "ODD\n"
+
+-- the lines of these bytes and the last line, from p on
+unfoldable pub listingFrom : Progress → List ℕ → List ℕ
+listingFrom p [] = lastLine (ending.End (p .count))
+listingFrom p (low ∷ []) = lastLine ending.Odd
+listingFrom p (low ∷ high ∷ bytes) =
+    cond (leb (wordOf low high) 256)
+    (lineAt p (wordOf low high) ++ listingFrom (after p (wordOf low high)) bytes)
+    (lastLine (ending.Bad (p .at)))
+
+-- the whole output
+unfoldable pub listing : List ℕ → List ℕ
+listing bytes = heading ++ listingFrom start bytes
+
+-- ---- one call over a buffer of bytes
+
+-- the lines written, how far the listing is, how many words are taken, and why it stopped
+pub record Lines : Type 0 where
+  pub text : List ℕ
+  pub progress : Progress
+  pub taken : ℕ
+  pub stop : Stop
+
+unfoldable pub stopped : Progress → Stop → Lines
+stopped p s = record { text = []; progress = p; taken = 0; stop = s }
+
+unfoldable pub behind : List ℕ → Lines → Lines
+behind xs l = record { text = xs ++ l .text; progress = l .progress; taken = l .taken + 1; stop = l .stop }
+
+-- words are taken until fewer than two bytes are left, or a word is above 256, or the next line no longer fits the room
+unfoldable pub listed : Progress → List ℕ → ℕ → Lines
+listed p [] room = stopped p Done
+listed p (low ∷ []) room = stopped p Done
+listed p (low ∷ high ∷ bytes) room =
+    cond (leb (wordOf low high) 256)
+    (cond (leb (length (lineAt p (wordOf low high))) room)
+    (behind (lineAt p (wordOf low high)) (listed (after p (wordOf low high)) bytes (room - length (lineAt p (wordOf low high)))))
+    (stopped p Full))
+    (stopped p Bad)
+
+unfoldable pub answerOf : Lines → Listed
+answerOf l = record { progress = l .progress; taken = l .taken; written = length (l .text); stop = l .stop }
+
+-- one word, behind so many bytes of a room
+unfoldable pub fitsBehind : Progress → ℕ → ℕ → ℕ → Bool
+fitsBehind p w written room = leb (written + length (lineAt p w)) room
+
+unfoldable pub stepped : Progress → ℕ → ℕ → ℕ → Step
+stepped p w written room =
+    cond (fitsBehind p w written room)
+    (record { progress = after p w; written = written + length (lineAt p w); fits = true })
+    (record { progress = p; written = written; fits = false })
