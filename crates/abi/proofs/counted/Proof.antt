@@ -1,0 +1,24 @@
+-- `abi::counted` meets its contract: up to the greatest i64 the count is itself. Assumes nothing.
+use mathlib.Core.Path.{_≡_, refl, sym, ap, ap₂, _∙_, subst}
+use native.Mathlib.Omega.{arith}
+use borrow.Author.Tests.{le-leb, lt-leb, eq-eqb, ne-eqb}
+use mir.Syntax.{w64}
+use mir.ValLaws.{toZ-pos}
+use Rattle.abi.specs.Result.{counted}
+use borrow.Author.Needs.{needs}
+use Rattle.abi.proofs.counted.Statement.{statement}
+use Rattle.abi.proofs.counted.Tie as tie
+
+cast-result : tie.Need-cast-result
+cast-result c = search needs
+
+returns : tie.Need-returns
+unfolding counted
+returns c = simp (le-leb _ _ (c .if1 .taken)) (toZ-pos w64 (c .before .args .n) (omega arith))
+
+returns-2 : tie.Need-returns-2
+unfolding counted
+returns-2 c = simp (lt-leb _ _ (c .if1 .left))
+
+pub counted-spec : {M : Type 1} → statement M
+counted-spec = tie.close (tie.spec cast-result returns returns-2)

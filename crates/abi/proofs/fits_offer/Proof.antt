@@ -1,0 +1,22 @@
+-- `abi::fits_offer` meets its contract: the tests are the definition's. Assumes nothing.
+use mathlib.Core.Path.{_≡_, refl, sym, ap, ap₂, _∙_, subst}
+use borrow.Author.Tests.{le-leb, lt-leb, eq-eqb, ne-eqb, not-true, not-false}
+use Rattle.number.proofs.Signed.{rd-is, rd-ok}
+use Rattle.abi.specs.Card.{fitsOffer}
+use borrow.Author.Needs.{needs}
+use Rattle.abi.proofs.fits_offer.Statement.{statement}
+use Rattle.abi.proofs.fits_offer.Tie as tie
+
+magnitude-requires : tie.Need-magnitude-requires
+magnitude-requires c κs = search needs
+
+returns : tie.Need-returns
+unfolding fitsOffer
+returns c = simp (eq-eqb _ _ (c .before .if1 .taken), c .magnitude .ensures, rd-is (c .before .before .fits .value))
+
+returns-2 : tie.Need-returns-2
+unfolding fitsOffer
+returns-2 c = simp (ne-eqb _ _ (c .if1 .left))
+
+pub fits-offer-spec : {M : Type 1} → statement M
+fits-offer-spec = tie.close (tie.spec magnitude-requires returns returns-2)

@@ -1,0 +1,49 @@
+-- `abi::kav_lookup` meets its contract: number 5 by the room, then the row that the lookup shows, if any. Assumes nothing.
+use mathlib.Core.Path.{_≡_, refl, sym, ap, ap₂, _∙_, subst}
+use mathlib.Core.List.{List}
+use lib.IntN.{ℤ}
+use lib.ListN.{length}
+use Rattle.sheet.specs.Lookup.{shown}
+use Rattle.abi.specs.Rows.{Filled, inFront}
+use Rattle.abi.proofs.Laws.{wide-ok, lookup-short, lookup-none, lookup-row}
+use borrow.Author.Needs.{needs}
+use Rattle.abi.proofs.kav_lookup.Statement.{statement}
+use Rattle.abi.proofs.kav_lookup.Tie as tie
+
+minus-requires : tie.Need-minus-requires
+minus-requires c κs = search needs
+
+returns : tie.Need-returns
+returns c =
+    let a = c .before .before .args in
+    let e = lookup-short (shown (a .bench .now) (a .maker .now) (a .identifier)) (a .row .now) (c .before .if1 .taken) in
+    (wide-ok (c .minus .result) (c .minus .ok) ∙ c .minus .ensures ∙ sym (ap (λ (f : Filled). f .result) e), sym (ap (λ (f : Filled). f .row) e))
+
+lookup-requires : tie.Need-lookup-requires
+lookup-requires c κs = search needs
+
+returns-2 : tie.Need-returns-2
+returns-2 c =
+    let k = c .before in
+    let a = k .before .before .args in
+    let e = lookup-none (shown (a .bench .now) (a .maker .now) (a .identifier)) (a .row .now) (k .before .if1 .left) (λ h. c .if2 .taken (ap length (k .lookup .ensures .0) ∙ h)) in
+    (sym (ap (λ (f : Filled). f .result) e), sym (ap (λ (f : Filled). f .row) e))
+
+copy-requires : tie.Need-copy-requires
+copy-requires c κs = search needs
+
+same-length : tie.Need-same-length
+same-length c = search needs
+
+returns-3 : tie.Need-returns-3
+returns-3 c =
+    let n = c .before .before .before in
+    let k = n .before in
+    let a = k .before .before .args in
+    let e = lookup-row (shown (a .bench .now) (a .maker .now) (a .identifier)) (a .row .now) (k .before .if1 .left) (sym (ap length (k .lookup .ensures .0)) ∙ n .if2 .left) in
+    (sym (ap (λ (f : Filled). f .result) e), c .before .copy .ensures ∙ ap (λ (l : List ℤ). inFront l (a .row .now)) (k .lookup .ensures .0) ∙ sym (ap (λ (f : Filled). f .row) e))
+
+pub kav-lookup-spec : {M : Type 1} → statement M
+kav-lookup-spec =
+    tie.close
+    (tie.spec minus-requires returns lookup-requires returns-2 copy-requires same-length returns-3)

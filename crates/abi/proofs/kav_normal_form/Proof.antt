@@ -1,0 +1,25 @@
+-- `abi::kav_normal_form` meets its contract: the result is that of the call, which leaves the buffer. Assumes nothing.
+use mathlib.Core.Path.{_≡_, refl, sym, ap, ap₂, _∙_, subst}
+use Rattle.abi.specs.Result.{resultOf}
+use Rattle.abi.proofs.Laws.{wide-ok}
+use borrow.Author.Needs.{needs}
+use Rattle.abi.proofs.kav_normal_form.Statement.{statement}
+use Rattle.abi.proofs.kav_normal_form.Tie as tie
+
+normal-form-requires : tie.Need-normal-form-requires
+normal-form-requires c κs = search needs
+
+result-requires : tie.Need-result-requires
+result-requires c κs = search needs
+
+same-length : tie.Need-same-length
+same-length c = search needs
+
+returns : tie.Need-returns
+returns c =
+    let n = c .before .before .before .normal-form in
+    (wide-ok (c .result .result) (c .result .ok) ∙ c .result .ensures ∙ ap resultOf (n .ensures .0), n .ensures .1)
+
+pub kav-normal-form-spec : {M : Type 1} → statement M
+kav-normal-form-spec =
+    tie.close (tie.spec normal-form-requires result-requires same-length returns)

@@ -1,0 +1,4 @@
+pub mod Result
+pub mod Rows
+pub mod Card
+pub mod Calls
