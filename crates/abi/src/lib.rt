@@ -84,14 +84,7 @@ fn set_of(letter: u8, address: u8, identifier: u8, number: i32, decimals: u32) -
     heard(letter, address, identifier, Body::Set { number, decimals })
 }
 
-fn body_of(
-    letter: u8,
-    address: u8,
-    identifier: u8,
-    kind: u8,
-    number: i32,
-    decimals: u32,
-) -> Parsed
+fn body_of(letter: u8, address: u8, identifier: u8, kind: u8, number: i32, decimals: u32) -> Parsed
     ensures { λ r. ⌜ r ≡ bodyOf letter address identifier kind number decimals ⌝ }
 {
     if kind == b'?' {
@@ -115,14 +108,7 @@ fn body_of(
     Parsed::Unheard
 }
 
-fn asked(
-    letter: u8,
-    address: u32,
-    identifier: u8,
-    kind: u8,
-    number: i32,
-    decimals: u32,
-) -> Parsed
+fn asked(letter: u8, address: u32, identifier: u8, kind: u8, number: i32, decimals: u32) -> Parsed
     ensures { λ r. ⌜ r ≡ asked letter address identifier kind number decimals ⌝ }
 {
     if 255 < address {

@@ -39,9 +39,9 @@ returns c =
     let k = c .before .before in
     let row = k .before .before .before .before .before .args .row .now in
     let offer : c .offer-of .result ≡ offerOf (codeOf (at row 13)) (codeOf (at row 14)) (at row 15) =
-        c .offer-of .ensures
-        ∙ ap (λ (z : ℤ). offerOf (k .before .code-at3 .result) (k .code-at4 .result) z) (rd-ok (n .result) (n .ok) ∙ n .ensures)
-        ∙ ap₂ (λ (m i : ℕ). offerOf m i (at row 15)) (k .before .code-at3 .ensures) (k .code-at4 .ensures) in
+    c .offer-of .ensures
+    ∙ ap (λ (z : ℤ). offerOf (k .before .code-at3 .result) (k .code-at4 .result) z) (rd-ok (n .result) (n .ok) ∙ n .ensures)
+    ∙ ap₂ (λ (m i : ℕ). offerOf m i (at row 15)) (k .before .code-at3 .ensures) (k .code-at4 .ensures) in
     simp (
       k .before .before .before .before .code-at .ensures,
       k .before .before .before .code-at2 .ensures,

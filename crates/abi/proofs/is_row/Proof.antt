@@ -47,9 +47,9 @@ returns-2 c =
     let k = c .before .before in
     let row = k .before .before .before .before .before .args .row .now in
     let offer : c .fits-offer .result ≡ fitsOffer (codeOf (at row 13)) (codeOf (at row 14)) (at row 15) =
-        c .fits-offer .ensures
-        ∙ ap (λ (z : ℤ). fitsOffer (k .before .code-at .result) (k .code-at2 .result) z) (rd-ok (n .result) (n .ok) ∙ n .ensures)
-        ∙ ap₂ (λ (m i : ℕ). fitsOffer m i (at row 15)) (k .before .code-at .ensures) (k .code-at2 .ensures) in
+    c .fits-offer .ensures
+    ∙ ap (λ (z : ℤ). fitsOffer (k .before .code-at .result) (k .code-at2 .result) z) (rd-ok (n .result) (n .ok) ∙ n .ensures)
+    ∙ ap₂ (λ (m i : ℕ). fitsOffer m i (at row 15)) (k .before .code-at .ensures) (k .code-at2 .ensures) in
     ap₂ (λ (x y : Bool). x && y) (k .before .before .codes .ensures) offer ∙ sym (rw (eq-eqb _ 16 (k .before .before .before .before .if1 .left)))
 
 pub is-row-spec : {M : Type 1} → statement M
