@@ -1,15 +1,15 @@
 -- Laws that the boundary's proofs cite: results as the machine holds them, copies into a row, and rows of codes.
 -- Assumes nothing.
-use mathlib.Core.Path.{_≡_, refl, sym, ap, _∙_, subst}
-use mathlib.Core.Bool.{Bool, true, false, _&&_}
-use mathlib.Core.List.{List, [], _∷_, _++_}
+use mathlib.Core.Path.{_≡_, refl, sym, ap, _∙_}
+use mathlib.Core.Bool.{true, false}
+use mathlib.Core.List.{List, _++_}
 use Prim.Native.Nat.{ℕ, zero, suc, _+_, _<_, _≤_, _^_}
 use native.Mathlib.Nat.{zero-add}
 use native.Mathlib.Numerals.{add-one}
 use native.Mathlib.Omega.{arith}
 use lib.Dec.{lit<}
 use lib.IntN.{ℤ, pos, negℤ, _-ℤ_}
-use lib.ListN.{length, getD, take, drop, set, length-set, drop-of-length-le}
+use lib.ListN.{length, getD, drop, set, length-set, drop-of-length-le}
 use lib.Seq.{drop-cons, take-length, paste, paste-zero, paste-suc}
 use lib.Signed.{mag}
 use mir.Syntax.{w64}
@@ -25,7 +25,7 @@ use Rattle.act.specs.declared.Offer.the-variants.{Nothing, Held}
 use Rattle.card.specs.declared.Card.{Card}
 use Rattle.number.proofs.Signed.{rd, rd-ok, minus-is}
 use Rattle.abi.specs.Result.{minus}
-use Rattle.abi.specs.Rows.{Filled, keeps, inFront, answerRow, readInto, lookupInto}
+use Rattle.abi.specs.Rows.{keeps, inFront, answerRow, readInto, lookupInto}
 use Rattle.reply.specs.declared.Answer.{Answer}
 use Rattle.abi.specs.Card.{isCode, codes, isRow, rowWith, rowBy, rowOfCard}
 

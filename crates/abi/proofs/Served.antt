@@ -1,16 +1,15 @@
 -- The calls that take a card as a row, by the cases of the code: a row that is no card, a refused call, a served one.
 -- Assumes nothing.
-use mathlib.Core.Path.{_≡_, refl, sym, ap, _∙_, subst}
-use mathlib.Core.Bool.{Bool, true, false, cond}
+use mathlib.Core.Path.{_≡_, refl, ap, _∙_}
+use mathlib.Core.Bool.{true, false}
 use mathlib.Core.List.{List}
 use Prim.Native.Nat.{ℕ, _<_, _≤_}
 use native.Mathlib.Omega.{arith}
 use borrow.Author.Tests.{lt-ltb, le-ltb}
 use lib.Dec.{ltb}
-use lib.IntN.{ℤ, pos}
-use lib.ListN.{length, set}
-use Rattle.refusal.specs.Refusal.{Outcome, refused, gave, numberOf}
-use Rattle.refusal.specs.declared.Refusal.{Refusal}
+use lib.IntN.{ℤ}
+use lib.ListN.{length}
+use Rattle.refusal.specs.Refusal.{refused, gave}
 use Rattle.refusal.proofs.Logic.{choice}
 use Rattle.wire.specs.Line.{longest}
 use Rattle.card.specs.declared.Card.{Card}
@@ -19,11 +18,11 @@ use Rattle.card.specs.declared.Verdict.{Verdict}
 use Rattle.card.specs.declared.Verdict.the-variants.{Refused, Sound}
 use Rattle.card.specs.Turn.{Played, turn, play}
 use Rattle.card.specs.Sound.{verdictOf}
-use Rattle.card.specs.Calls.{Step, stepBy, stepCall, Took, Run, runBy, runCall}
-use Rattle.abi.specs.Result.{minus, counted}
+use Rattle.card.specs.Calls.{Step, stepBy, stepCall, Took, runBy, runCall}
+use Rattle.abi.specs.Result.{counted}
 use Rattle.abi.specs.Rows.{inFront}
 use Rattle.abi.specs.Card.{isRow, cardOf, rowOfCard}
-use Rattle.abi.specs.Calls.{Stepped, stepKept, stepFrom, kavStep, Ran, runKept, runServed, runFrom, shortRun, kavRun}
+use Rattle.abi.specs.Calls.{stepKept, stepFrom, kavStep, runKept, runServed, runFrom, shortRun, kavRun}
 
 -- what was given is not refused
 never : {A : Type 0} {X : Type 0} {a : A} {n : ℕ} → gave a ≡ refused n → X

@@ -7,21 +7,15 @@ ghost use Rattle.refusal.specs.Refusal.{outcomeOf, numberOf};
 ghost use Rattle.hearing.specs.Normal.{normalCall};
 ghost use Rattle.reply.specs.Read.{readCall};
 ghost use Rattle.reply.specs.Reply.{markOf};
-ghost use lib.IntN.{pos};
-ghost use Rattle.hearing.specs.Hearing.{openOf};
-ghost use Rattle.sheet.specs.Sheet.{at as numberAt};
 ghost use Rattle.sheet.specs.Lookup.{shown};
 ghost use Rattle.message.specs.Scan.{message};
 ghost use Rattle.abi.specs.Result.{minus, counted, resultOf, setOf, bodyOf, asked, writeAsked, lineAsked};
-ghost use Rattle.abi.specs.Card.{isCode, codeOf, codes, fitsOffer, offerOf, isRow, pendingOf, cardOf, rowWith, rowOfCard};
 ghost use Rattle.card.specs.Sound.{verdictOf};
 ghost use Rattle.abi.specs.Calls.{kavStep, kavRun, shortRun};
 ghost use Rattle.abi.specs.Rows.{inFront, answerRow, readInto, lookupInto};
-use act::Offer;
 use card::Card;
 use card::Taken;
 use card::Verdict;
-use hearing::Pending;
 use message::Body;
 use message::Message;
 use message::Parsed;
@@ -31,6 +25,8 @@ use reply::Answer;
 use reply::Content;
 use reply::Mark;
 use reply::Reading;
+
+mod row;
 
 // ---- results
 
@@ -131,12 +127,6 @@ fn copy(numbers: &[i32], out: &mut [i32])
     }
 }
 
-fn wide(x: u8) -> i32
-    ensures { λ r. ⌜ r ≡ pos x ⌝ }
-{
-    x as i32
-}
-
 fn mark_of(mark: Mark) -> u8
     ensures { λ r. ⌜ r ≡ markOf mark ⌝ }
 {
@@ -150,169 +140,18 @@ fn mark_of(mark: Mark) -> u8
 fn answer_row(answer: Answer) -> [i32; 7]
     ensures { λ r. ⌜ r ≡ answerRow answer ⌝ }
 {
-    let letter = wide(answer.letter);
-    let address = wide(answer.address);
-    let identifier = wide(answer.identifier);
+    let letter = row::wide(answer.letter);
+    let address = row::wide(answer.address);
+    let identifier = row::wide(answer.identifier);
     let given = answer.mark;
-    let mark = wide(mark_of(given));
+    let mark = row::wide(mark_of(given));
     let content = answer.content;
     match content {
         Content::Empty => [letter, address, identifier, mark, 0, 0, 0],
         Content::Number { number, decimals } => {
-            let decimals = wide(decimals);
+            let decimals = row::wide(decimals);
             [letter, address, identifier, mark, 1, number, decimals]
         }
-    }
-}
-
-// ---- the card as sixteen numbers
-
-// A number that a byte can be.
-fn is_code(x: i32) -> bool
-    ensures { λ r. ⌜ r ≡ isCode x ⌝ }
-{
-    number::in_range(0, x, 255)
-}
-
-fn code_of(x: i32) -> u8
-    ensures { λ r. ⌜ r ≡ codeOf x ⌝ }
-{
-    if is_code(x) { x as u8 } else { 0 }
-}
-
-fn codes(numbers: &[i32]) -> bool
-    ensures { λ r. ⌜ r ≡ codes (now (numbers .entry)) ⌝ }
-{
-    let mut i = 0;
-    while i < numbers.len() {
-        if !is_code(numbers[i]) {
-            return false;
-        }
-        i += 1;
-    }
-    true
-}
-
-fn number_at(row: &[i32], k: usize) -> i32
-    ensures { λ r. ⌜ r ≡ numberAt (now (row .entry)) k ⌝ }
-{
-    if k < row.len() { row[k] } else { 0 }
-}
-
-fn code_at(row: &[i32], k: usize) -> u8
-    ensures { λ r. ⌜ r ≡ codeOf (numberAt (now (row .entry)) k) ⌝ }
-{
-    code_of(number_at(row, k))
-}
-
-// A mark, an identifier and a value that an offer, or none, is lent as.
-fn fits_offer(mark: u8, identifier: u8, value: i32) -> bool
-    ensures { λ r. ⌜ r ≡ fitsOffer mark identifier value ⌝ }
-{
-    if mark == 0 {
-        (identifier == 0) & (number::magnitude(value) == 0)
-    } else {
-        mark == 1
-    }
-}
-
-fn offer_of(mark: u8, identifier: u8, value: i32) -> Offer
-    ensures { λ r. ⌜ r ≡ offerOf mark identifier value ⌝ }
-{
-    if mark == 0 {
-        Offer::Nothing
-    } else {
-        Offer::Held { identifier, value }
-    }
-}
-
-// Whether the numbers are some card, sound or not.
-fn is_row(row: &[i32]) -> bool
-    ensures { λ r. ⌜ r ≡ isRow (now (row .entry)) ⌝ }
-{
-    if row.len() != 16 {
-        return false;
-    }
-    codes(&row[..15]) & fits_offer(code_at(row, 13), code_at(row, 14), number_at(row, 15))
-}
-
-fn pending_of(row: &[i32]) -> Pending
-    ensures { λ r. ⌜ r ≡ pendingOf (now (row .entry)) ⌝ }
-{
-    let chars = [
-        code_at(row, 3),
-        code_at(row, 4),
-        code_at(row, 5),
-        code_at(row, 6),
-        code_at(row, 7),
-        code_at(row, 8),
-        code_at(row, 9),
-        code_at(row, 10),
-        code_at(row, 11),
-        code_at(row, 12),
-    ];
-    let len = code_at(row, 2) as usize;
-    Pending { chars, len }
-}
-
-fn card_of(row: &[i32]) -> Card
-    ensures { λ r. ⌜ r ≡ cardOf (now (row .entry)) ⌝ }
-{
-    let letter = code_at(row, 0);
-    let address = code_at(row, 1);
-    let pending = pending_of(row);
-    let offer = offer_of(code_at(row, 13), code_at(row, 14), number_at(row, 15));
-    Card {
-        letter,
-        address,
-        pending,
-        offer,
-    }
-}
-
-// The count of open characters.
-fn open_count(pending: Pending) -> i32
-    ensures { λ r. ⌜ r ≡ pos (length (openOf pending)) ⌝ }
-{
-    let len = pending.len;
-    if len < hearing::MOST { len as i32 } else { 10 }
-}
-
-fn row_with(card: Card, mark: u8, identifier: u8, value: i32) -> [i32; 16]
-    ensures { λ r. ⌜ r ≡ rowWith card mark identifier value ⌝ }
-{
-    let pending = card.pending;
-    let chars = pending.chars;
-    let letter = wide(card.letter);
-    let address = wide(card.address);
-    let count = open_count(pending);
-    [
-        letter,
-        address,
-        count,
-        wide(chars[0]),
-        wide(chars[1]),
-        wide(chars[2]),
-        wide(chars[3]),
-        wide(chars[4]),
-        wide(chars[5]),
-        wide(chars[6]),
-        wide(chars[7]),
-        wide(chars[8]),
-        wide(chars[9]),
-        wide(mark),
-        wide(identifier),
-        value,
-    ]
-}
-
-fn row_of(card: Card) -> [i32; 16]
-    ensures { λ r. ⌜ r ≡ rowOfCard card ⌝ }
-{
-    let offer = card.offer;
-    match offer {
-        Offer::Nothing => row_with(card, 0, 0, 0),
-        Offer::Held { identifier, value } => row_with(card, 1, identifier, value),
     }
 }
 
@@ -424,16 +263,16 @@ pub extern "C" fn kav_step<'a>(
         × (now (values .exit) ≡ kavStep (now (card .entry)) (now (bench .entry)) (now (maker .entry)) (now (values .entry)) word (now (out .entry)) .values)
         × (now (out .exit) ≡ kavStep (now (card .entry)) (now (bench .entry)) (now (maker .entry)) (now (values .entry)) word (now (out .entry)) .buffer) ⌝ }
 {
-    if !is_row(card) {
+    if !row::is_row(card) {
         return minus(Refusal::UnsoundCard);
     }
-    let stepped = card::step(card_of(card), bench, maker, values, word, out);
+    let stepped = card::step(row::card_of(card), bench, maker, values, word, out);
     let answer = stepped.answer;
     match answer {
         Written::Refused(refusal) => minus(refusal),
         Written::Wrote(n) => {
             let next = stepped.card;
-            let row = row_of(next);
+            let row = row::row_of(next);
             copy(&row, card);
             counted(n)
         }
@@ -466,10 +305,10 @@ pub extern "C" fn kav_run<'a>(
         × (now (out .exit) ≡ kavRun (now (card .entry)) (now (bench .entry)) (now (maker .entry)) (now (values .entry)) (now (words .entry)) (now (out .entry)) (now (counts .entry)) .buffer)
         × (now (counts .exit) ≡ kavRun (now (card .entry)) (now (bench .entry)) (now (maker .entry)) (now (values .entry)) (now (words .entry)) (now (out .entry)) (now (counts .entry)) .counts) ⌝ }
 {
-    if !is_row(card) {
+    if !row::is_row(card) {
         return minus(Refusal::UnsoundCard);
     }
-    let held = card_of(card);
+    let held = row::card_of(card);
     if counts.len() < 2 {
         return short_run(held, bench, maker, values, words);
     }
@@ -479,7 +318,7 @@ pub extern "C" fn kav_run<'a>(
         Taken::Refused(refusal) => minus(refusal),
         Taken::Took { words, bytes } => {
             let next = ran.card;
-            let row = row_of(next);
+            let row = row::row_of(next);
             copy(&row, card);
             count(counts, words, bytes);
             0

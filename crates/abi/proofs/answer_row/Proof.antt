@@ -1,9 +1,8 @@
 -- `abi::answer_row` meets its contract: each byte is widened as it is. Assumes nothing.
-use mathlib.Core.Path.{_≡_, refl, sym, ap, ap₂, _∙_, subst}
 use Rattle.number.proofs.Signed.{rd-is}
 use mir.Syntax.{w32}
 use mir.Val.{SFits}
-use Rattle.abi.specs.Rows.{numbersIn, answerRow}
+use Rattle.abi.specs.Rows.{answerRow}
 use Rattle.abi.proofs.Laws.{told}
 use borrow.Author.Needs.{needs}
 use Rattle.abi.proofs.answer_row.Statement.{statement}

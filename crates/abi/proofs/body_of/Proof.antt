@@ -1,7 +1,6 @@
 -- `abi::body_of` meets its contract: each return by the tests of the kind that led there. Assumes nothing.
-use mathlib.Core.Path.{_≡_, refl, sym, ap, ap₂, _∙_, subst}
-use borrow.Author.Tests.{le-leb, lt-leb, eq-eqb, ne-eqb, not-true, not-false}
-use Rattle.number.proofs.Signed.{rd-is, rd-ok}
+use borrow.Author.Tests.{eq-eqb, ne-eqb}
+use Rattle.number.proofs.Signed.{rd-is}
 use Rattle.abi.specs.Result.{bodyOf}
 use borrow.Author.Needs.{needs}
 use Rattle.abi.proofs.body_of.Statement.{statement}

@@ -1,13 +1,12 @@
 -- `abi::copy` meets its contract. The loop's invariant: the first k numbers are in their places, and nothing else has changed.
 -- Assumes nothing.
-use mathlib.Core.Path.{_≡_, refl, sym, ap, ap₂, _∙_, subst}
+use mathlib.Core.Path.{sym, subst}
 use native.Mathlib.Omega.{arith}
 use Prim.Native.Nat.{_+_, _-_}
 use lib.IntN.{ℤ, pos}
 use lib.ListN.{length, getD, set}
 use Rattle.number.proofs.Signed.{rd-ok}
 use Rattle.abi.proofs.Laws.{Copied, copy-starts, copy-more, copy-ends}
-use Prim.Native.Nat.{_-_}
 use Rattle.abi.proofs.copy.Statement.{statement}
 use Rattle.abi.proofs.copy.Tie as tie
 

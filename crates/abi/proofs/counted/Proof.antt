@@ -1,7 +1,6 @@
 -- `abi::counted` meets its contract: up to the greatest i64 the count is itself. Assumes nothing.
-use mathlib.Core.Path.{_≡_, refl, sym, ap, ap₂, _∙_, subst}
 use native.Mathlib.Omega.{arith}
-use borrow.Author.Tests.{le-leb, lt-leb, eq-eqb, ne-eqb}
+use borrow.Author.Tests.{le-leb, lt-leb}
 use mir.Syntax.{w64}
 use mir.ValLaws.{toZ-pos}
 use Rattle.abi.specs.Result.{counted}

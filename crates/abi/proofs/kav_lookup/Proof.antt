@@ -1,5 +1,5 @@
 -- `abi::kav_lookup` meets its contract: number 5 by the room, then the row that the lookup shows, if any. Assumes nothing.
-use mathlib.Core.Path.{_≡_, refl, sym, ap, ap₂, _∙_, subst}
+use mathlib.Core.Path.{sym, ap, _∙_}
 use mathlib.Core.List.{List}
 use lib.IntN.{ℤ}
 use lib.ListN.{length}

@@ -1,5 +1,5 @@
 -- `abi::kav_normal_form` meets its contract: the result is that of the call, which leaves the buffer. Assumes nothing.
-use mathlib.Core.Path.{_≡_, refl, sym, ap, ap₂, _∙_, subst}
+use mathlib.Core.Path.{ap, _∙_}
 use Rattle.abi.specs.Result.{resultOf}
 use Rattle.abi.proofs.Laws.{wide-ok}
 use borrow.Author.Needs.{needs}

@@ -1,5 +1,5 @@
 -- `abi::kav_read` meets its contract: number 6 by the reader, number 5 by the room, otherwise the answer's numbers. Assumes nothing.
-use mathlib.Core.Path.{_≡_, refl, sym, ap, ap₂, _∙_, subst}
+use mathlib.Core.Path.{sym, ap, _∙_}
 use mathlib.Core.List.{List}
 use lib.IntN.{ℤ}
 use Rattle.refusal.specs.Refusal.{Outcome}

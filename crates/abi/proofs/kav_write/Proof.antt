@@ -1,7 +1,5 @@
 -- `abi::kav_write` meets its contract: what is asked for is written, or is no message. Assumes nothing.
-use mathlib.Core.Path.{_≡_, refl, sym, ap, ap₂, _∙_, subst}
-use mathlib.Core.List.{List}
-use Prim.Native.Nat.{ℕ}
+use mathlib.Core.Path.{sym, ap, _∙_}
 use Rattle.refusal.specs.Call.{Call}
 use Rattle.message.specs.declared.Parsed.{Parsed}
 use lib.IntN.{ℤ}

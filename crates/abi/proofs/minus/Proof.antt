@@ -1,11 +1,9 @@
 -- `abi::minus` meets its contract: a number of at most 7 taken from zero is minus the number. Assumes nothing.
-use mathlib.Core.Path.{_≡_, refl, sym, ap, ap₂, _∙_, subst}
-use lib.IntN.{pos, _-ℤ_}
+use mathlib.Core.Path.{sym, _∙_, subst}
 use mir.Syntax.{w64}
-use mir.Val.{SFits, toZ}
+use mir.Val.{SFits}
 use mir.ValLaws.{toZ-ofZ}
 use Rattle.refusal.specs.Refusal.{numberOf}
-use Rattle.abi.specs.Result.{minus}
 use Rattle.abi.proofs.Laws.{number-small, minus-fits, below-zero}
 use borrow.Author.Needs.{needs}
 use Rattle.abi.proofs.minus.Statement.{statement}

@@ -1,5 +1,5 @@
 -- `abi::result` meets its contract: a refusal by its number, anything else by its count. Assumes nothing.
-use mathlib.Core.Path.{_≡_, refl, sym, ap, ap₂, _∙_, subst}
+use mathlib.Core.Path.{sym, _∙_}
 use Rattle.abi.specs.Result.{resultOf}
 use Rattle.abi.proofs.Laws.{wide-ok}
 use borrow.Author.Needs.{needs}

@@ -1,6 +1,5 @@
 -- `abi::set_of` meets its contract: decimals that fit a byte are kept. Assumes nothing.
-use mathlib.Core.Path.{_≡_, refl, sym, ap, ap₂, _∙_, subst}
-use borrow.Author.Tests.{le-leb, lt-leb, eq-eqb, ne-eqb}
+use borrow.Author.Tests.{le-leb, lt-leb}
 use Rattle.number.proofs.Signed.{rd-is}
 use Rattle.abi.specs.Result.{setOf}
 use borrow.Author.Needs.{needs}

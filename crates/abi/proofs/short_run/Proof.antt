@@ -1,5 +1,5 @@
 -- `abi::short_run` meets its contract: the verdict's number, or 5. Assumes nothing.
-use mathlib.Core.Path.{_≡_, refl, sym, ap, ap₂, _∙_, subst}
+use mathlib.Core.Path.{sym, ap, _∙_}
 use Rattle.abi.specs.Calls.{shortRun}
 use Rattle.abi.proofs.Laws.{wide-ok}
 use borrow.Author.Needs.{needs}

@@ -1,15 +1,13 @@
--- `abi::card_of` meets its contract: each part is made of the numbers at its places. Assumes nothing.
-use mathlib.Core.Path.{_≡_, refl, sym, ap, ap₂, _∙_, subst}
-use Rattle.number.proofs.Signed.{rd-is, rd-ok}
+-- `abi::row::card_of` meets its contract: each part is made of the numbers at its places. Assumes nothing.
+use mathlib.Core.Path.{_≡_, ap, ap₂, _∙_}
+use Rattle.number.proofs.Signed.{rd-ok}
 use Prim.Native.Nat.{ℕ}
 use lib.IntN.{ℤ}
 use Rattle.sheet.specs.Sheet.{at}
-use Rattle.act.specs.declared.Offer.{Offer}
 use Rattle.abi.specs.Card.{codeOf, offerOf, cardOf}
-use Rattle.abi.specs.Card.{cardOf}
 use borrow.Author.Needs.{needs}
-use Rattle.abi.proofs.card_of.Statement.{statement}
-use Rattle.abi.proofs.card_of.Tie as tie
+use Rattle.abi.proofs.row.card_of.Statement.{statement}
+use Rattle.abi.proofs.row.card_of.Tie as tie
 
 code-at-requires : tie.Need-code-at-requires
 code-at-requires c κs = search needs

@@ -1,10 +1,10 @@
--- `abi::wide` meets its contract: a byte fits an i32. Assumes nothing.
+-- `abi::row::wide` meets its contract: a byte fits an i32. Assumes nothing.
 use native.Mathlib.Omega.{arith}
 use mir.Syntax.{w32}
 use mir.ValLaws.{toZ-pos}
 use borrow.Author.Needs.{needs}
-use Rattle.abi.proofs.wide.Statement.{statement}
-use Rattle.abi.proofs.wide.Tie as tie
+use Rattle.abi.proofs.row.wide.Statement.{statement}
+use Rattle.abi.proofs.row.wide.Tie as tie
 
 cast-result : tie.Need-cast-result
 cast-result c = search needs

@@ -1,11 +1,10 @@
--- `abi::fits_offer` meets its contract: the tests are the definition's. Assumes nothing.
-use mathlib.Core.Path.{_≡_, refl, sym, ap, ap₂, _∙_, subst}
-use borrow.Author.Tests.{le-leb, lt-leb, eq-eqb, ne-eqb, not-true, not-false}
-use Rattle.number.proofs.Signed.{rd-is, rd-ok}
+-- `abi::row::fits_offer` meets its contract: the tests are the definition's. Assumes nothing.
+use borrow.Author.Tests.{eq-eqb, ne-eqb}
+use Rattle.number.proofs.Signed.{rd-is}
 use Rattle.abi.specs.Card.{fitsOffer}
 use borrow.Author.Needs.{needs}
-use Rattle.abi.proofs.fits_offer.Statement.{statement}
-use Rattle.abi.proofs.fits_offer.Tie as tie
+use Rattle.abi.proofs.row.fits_offer.Statement.{statement}
+use Rattle.abi.proofs.row.fits_offer.Tie as tie
 
 magnitude-requires : tie.Need-magnitude-requires
 magnitude-requires c κs = search needs

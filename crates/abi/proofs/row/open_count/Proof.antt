@@ -1,5 +1,5 @@
--- `abi::open_count` meets its contract: the first `len` of ten characters are the lesser of the two. Assumes nothing.
-use mathlib.Core.Path.{_≡_, refl, sym, ap, ap₂, _∙_, subst}
+-- `abi::row::open_count` meets its contract: the first `len` of ten characters are the lesser of the two. Assumes nothing.
+use mathlib.Core.Path.{_≡_, sym, ap, _∙_}
 use native.Mathlib.Omega.{arith}
 use lib.IntN.{pos}
 use lib.ListN.{length}
@@ -8,8 +8,8 @@ use mir.Syntax.{w32}
 use mir.ValLaws.{toZ-pos}
 use Rattle.hearing.specs.Hearing.{openOf}
 use borrow.Author.Needs.{needs}
-use Rattle.abi.proofs.open_count.Statement.{statement}
-use Rattle.abi.proofs.open_count.Tie as tie
+use Rattle.abi.proofs.row.open_count.Statement.{statement}
+use Rattle.abi.proofs.row.open_count.Tie as tie
 
 cast-result : tie.Need-cast-result
 cast-result c = search needs

@@ -1,16 +1,16 @@
--- `abi::codes` meets its contract. The loop's invariant: the numbers are codes exactly when those from i on are. Assumes nothing.
-use mathlib.Core.Path.{_≡_, refl, sym, ap, ap₂, _∙_, subst}
+-- `abi::row::codes` meets its contract. The loop's invariant: the numbers are codes exactly when those from i on are. Assumes nothing.
+use mathlib.Core.Path.{_≡_, refl, sym, ap, _∙_}
 use native.Mathlib.Omega.{arith}
 use borrow.Author.Needs.{needs}
 use borrow.Author.Tests.{not-true, not-false}
-use Rattle.number.proofs.Signed.{rd-is, rd-ok}
-use Prim.Native.Nat.{ℕ, _≤_, _-_}
+use Rattle.number.proofs.Signed.{rd-ok}
+use Prim.Native.Nat.{_≤_, _-_}
 use lib.IntN.{pos}
 use lib.ListN.{length, getD, drop}
 use Rattle.abi.specs.Card.{isCode, codes}
 use Rattle.abi.proofs.Laws.{codes-more, codes-not, codes-done}
-use Rattle.abi.proofs.codes.Statement.{statement}
-use Rattle.abi.proofs.codes.Tie as tie
+use Rattle.abi.proofs.row.codes.Statement.{statement}
+use Rattle.abi.proofs.row.codes.Tie as tie
 
 abbrev Inv-loop : tie.InvT-loop
 Inv-loop numbers i₀ i = (i ≤ length numbers) × (codes numbers ≡ codes (drop i numbers))

@@ -1,14 +1,13 @@
--- `abi::code_of` meets its contract: a number from 0 to 255 is a byte. Assumes nothing.
-use mathlib.Core.Path.{_≡_, refl, sym, ap, ap₂, _∙_, subst}
+-- `abi::row::code_of` meets its contract: a number from 0 to 255 is a byte. Assumes nothing.
+use mathlib.Core.Path.{_≡_, refl, sym, ap, _∙_}
 use native.Mathlib.Omega.{arith}
-use Rattle.number.proofs.Signed.{rd-is, rd-ok}
-use lib.IntN.{ℤ, pos, natAbs}
-use Rattle.number.specs.Number.{inRange}
+use Rattle.number.proofs.Signed.{rd-is}
+use lib.IntN.{pos, natAbs}
 use Rattle.sheet.proofs.Sheets.{range-cast}
 use Rattle.abi.specs.Card.{isCode, codeOf}
 use borrow.Author.Needs.{needs}
-use Rattle.abi.proofs.code_of.Statement.{statement}
-use Rattle.abi.proofs.code_of.Tie as tie
+use Rattle.abi.proofs.row.code_of.Statement.{statement}
+use Rattle.abi.proofs.row.code_of.Tie as tie
 
 is-code-requires : tie.Need-is-code-requires
 is-code-requires c κs = search needs

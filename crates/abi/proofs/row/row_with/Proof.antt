@@ -1,11 +1,10 @@
--- `abi::row_with` meets its contract: each byte is widened as it is. Assumes nothing.
-use mathlib.Core.Path.{_≡_, refl, sym, ap, ap₂, _∙_, subst}
-use Rattle.number.proofs.Signed.{rd-is, rd-ok}
+-- `abi::row::row_with` meets its contract: each byte is widened as it is. Assumes nothing.
+use Rattle.number.proofs.Signed.{rd-is}
 use Rattle.abi.specs.Card.{rowWith}
 use Rattle.abi.proofs.Laws.{told}
 use borrow.Author.Needs.{needs}
-use Rattle.abi.proofs.row_with.Statement.{statement}
-use Rattle.abi.proofs.row_with.Tie as tie
+use Rattle.abi.proofs.row.row_with.Statement.{statement}
+use Rattle.abi.proofs.row.row_with.Tie as tie
 
 wide-requires : tie.Need-wide-requires
 wide-requires c κs = search needs

@@ -1,10 +1,10 @@
--- `abi::code_at` meets its contract: the byte of the number that stands there. Assumes nothing.
-use mathlib.Core.Path.{_≡_, refl, sym, ap, ap₂, _∙_, subst}
-use Rattle.number.proofs.Signed.{rd-is, rd-ok}
+-- `abi::row::code_at` meets its contract: the byte of the number that stands there. Assumes nothing.
+use mathlib.Core.Path.{ap, _∙_}
+use Rattle.number.proofs.Signed.{rd-ok}
 use Rattle.abi.specs.Card.{codeOf}
 use borrow.Author.Needs.{needs}
-use Rattle.abi.proofs.code_at.Statement.{statement}
-use Rattle.abi.proofs.code_at.Tie as tie
+use Rattle.abi.proofs.row.code_at.Statement.{statement}
+use Rattle.abi.proofs.row.code_at.Tie as tie
 
 number-at-requires : tie.Need-number-at-requires
 number-at-requires c κs = search needs

@@ -1,13 +1,12 @@
--- `abi::row_of` meets its contract: the row with the offer, or with none. Assumes nothing.
-use mathlib.Core.Path.{_≡_, refl, sym, ap, ap₂, _∙_, subst}
-use Rattle.number.proofs.Signed.{rd-is, rd-ok}
+-- `abi::row::row_of` meets its contract: the row with the offer, or with none. Assumes nothing.
+use mathlib.Core.Path.{sym, ap, _∙_}
+use Rattle.number.proofs.Signed.{rd-is}
 use mir.Syntax.{w32}
 use mir.Val.{SFits}
-use lib.IntN.{ℤ}
 use Rattle.abi.specs.Card.{rowWith, rowBy, rowOfCard}
 use borrow.Author.Needs.{needs}
-use Rattle.abi.proofs.row_of.Statement.{statement}
-use Rattle.abi.proofs.row_of.Tie as tie
+use Rattle.abi.proofs.row.row_of.Statement.{statement}
+use Rattle.abi.proofs.row.row_of.Tie as tie
 
 enum-told : tie.Need-enum-told
 enum-told c = search needs

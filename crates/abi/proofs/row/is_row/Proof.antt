@@ -1,22 +1,17 @@
--- `abi::is_row` meets its contract: sixteen numbers, and the tests of the first fifteen and of the offer. Assumes nothing.
-use mathlib.Core.Path.{_≡_, refl, sym, ap, ap₂, _∙_, subst}
+-- `abi::row::is_row` meets its contract: sixteen numbers, and the tests of the first fifteen and of the offer. Assumes nothing.
+use mathlib.Core.Path.{_≡_, sym, ap, ap₂, _∙_}
 use native.Mathlib.Omega.{arith}
-use borrow.Author.Tests.{le-leb, lt-leb, eq-eqb, ne-eqb, not-true, not-false}
-use Rattle.number.proofs.Signed.{rd-is, rd-ok}
+use borrow.Author.Tests.{eq-eqb, ne-eqb}
+use Rattle.number.proofs.Signed.{rd-ok}
 use mathlib.Core.Bool.{Bool, _&&_}
 use Prim.Native.Nat.{ℕ}
 use lib.IntN.{ℤ}
-use lib.ListN.{length, take}
 use lib.Seq.{length-take-le}
 use Rattle.sheet.specs.Sheet.{at}
 use Rattle.abi.specs.Card.{codeOf, codes, fitsOffer, isRow}
-use mathlib.Core.Bool.{_&&_}
-use Prim.Native.Nat.{_≤_}
-use lib.ListN.{length}
-use Rattle.abi.specs.Card.{isRow}
 use borrow.Author.Needs.{needs}
-use Rattle.abi.proofs.is_row.Statement.{statement}
-use Rattle.abi.proofs.is_row.Tie as tie
+use Rattle.abi.proofs.row.is_row.Statement.{statement}
+use Rattle.abi.proofs.row.is_row.Tie as tie
 
 returns : tie.Need-returns
 unfolding isRow

@@ -1,9 +1,8 @@
--- `abi::pending_of` meets its contract: each character is the byte that stands at its place. Assumes nothing.
-use mathlib.Core.Path.{_≡_, refl, sym, ap, ap₂, _∙_, subst}
+-- `abi::row::pending_of` meets its contract: each character is the byte that stands at its place. Assumes nothing.
 use Rattle.abi.specs.Card.{pendingOf}
 use borrow.Author.Needs.{needs}
-use Rattle.abi.proofs.pending_of.Statement.{statement}
-use Rattle.abi.proofs.pending_of.Tie as tie
+use Rattle.abi.proofs.row.pending_of.Statement.{statement}
+use Rattle.abi.proofs.row.pending_of.Tie as tie
 
 code-at-requires : tie.Need-code-at-requires
 code-at-requires c κs = search needs

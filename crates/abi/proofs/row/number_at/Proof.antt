@@ -1,10 +1,10 @@
--- `abi::number_at` meets its contract: behind the end stands 0. Assumes nothing.
-use mathlib.Core.Path.{_≡_, refl, sym, ap, ap₂, _∙_, subst}
+-- `abi::row::number_at` meets its contract: behind the end stands 0. Assumes nothing.
+use mathlib.Core.Path.{sym}
 use lib.IntN.{pos}
 use lib.ListN.{List·getD-eq-default}
 use borrow.Author.Needs.{needs}
-use Rattle.abi.proofs.number_at.Statement.{statement}
-use Rattle.abi.proofs.number_at.Tie as tie
+use Rattle.abi.proofs.row.number_at.Statement.{statement}
+use Rattle.abi.proofs.row.number_at.Tie as tie
 
 mul-result : tie.Need-mul-result
 mul-result c = search needs

@@ -1,12 +1,12 @@
--- `abi::is_code` meets its contract: the range from 0 to 255. Assumes nothing.
-use mathlib.Core.Path.{_≡_, refl, sym, ap, ap₂, _∙_, subst}
-use Rattle.number.proofs.Signed.{rd-is, rd-ok}
+-- `abi::row::is_code` meets its contract: the range from 0 to 255. Assumes nothing.
+use mathlib.Core.Path.{ap, _∙_}
+use Rattle.number.proofs.Signed.{rd-is}
 use lib.IntN.{ℤ, pos}
 use Rattle.number.specs.Number.{inRange}
 use Rattle.abi.specs.Card.{isCode}
 use borrow.Author.Needs.{needs}
-use Rattle.abi.proofs.is_code.Statement.{statement}
-use Rattle.abi.proofs.is_code.Tie as tie
+use Rattle.abi.proofs.row.is_code.Statement.{statement}
+use Rattle.abi.proofs.row.is_code.Tie as tie
 
 in-range-requires : tie.Need-in-range-requires
 in-range-requires c κs = search needs
