@@ -1,0 +1,38 @@
+//! Links the proved archive.
+//!
+//! - `KAV_ARCHIVE`, or `../target/staticlib/libabi.a`, is linked when it exists.
+//! - Feature `archive`: it must exist, otherwise the build fails.
+//! - Feature `stand-in`: nothing is linked; src/standin.rs defines the seven functions.
+//!
+//! `cfg(kav_linked)` tells the rest of the crate that the seven functions can be called.
+
+use std::env;
+use std::path::PathBuf;
+
+fn main() {
+    println!("cargo::rustc-check-cfg=cfg(kav_linked)");
+    println!("cargo::rerun-if-env-changed=KAV_ARCHIVE");
+    println!("cargo::rerun-if-changed=build.rs");
+
+    let here = PathBuf::from(env::var_os("CARGO_MANIFEST_DIR").expect("cargo sets it"));
+    let archive = match env::var_os("KAV_ARCHIVE") {
+        Some(path) => here.join(path),
+        None => here.join("../target/staticlib/libabi.a"),
+    };
+    // While the file is missing cargo asks again at every build, so one made later is noticed.
+    println!("cargo::rerun-if-changed={}", archive.display());
+
+    let wanted = env::var_os("CARGO_FEATURE_ARCHIVE").is_some();
+    if env::var_os("CARGO_FEATURE_STAND_IN").is_some() {
+        assert!(!wanted, "the features `archive` and `stand-in` exclude each other");
+        println!("cargo::rustc-cfg=kav_linked");
+        return;
+    }
+    if archive.is_file() {
+        // The file is named whole, so that no other library of that name can be taken for it.
+        println!("cargo::rustc-link-arg={}", archive.display());
+        println!("cargo::rustc-cfg=kav_linked");
+    } else {
+        assert!(!wanted, "no archive at {}: run `rt staticlib abi` first", archive.display());
+    }
+}

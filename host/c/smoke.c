@@ -1,0 +1,141 @@
+/*
+ * The seven functions from C, once each and refused once each. From host/:
+ *
+ *   gcc -std=c11 -Wall -Wextra -O2 -I. c/smoke.c ../target/staticlib/libabi.a -o c/smoke && c/smoke
+ *
+ * or c/smoke.sh, which also knows the stand-in.
+ */
+#include "kavtziron.h"
+
+#include <inttypes.h>
+#include <stdio.h>
+#include <string.h>
+
+static int failed;
+
+static void check(const char *what, int64_t got, int64_t wanted) {
+    if (got != wanted) {
+        printf("FAILED %s: %" PRId64 ", not %" PRId64 "\n", what, got, wanted);
+        failed = 1;
+    }
+}
+
+static void check_text(const char *what, const uint8_t *bytes, int64_t length, const char *wanted) {
+    size_t count = strlen(wanted);
+    int same = length == (int64_t)count;
+    for (size_t at = 0; same && at < count; at++) {
+        same = (bytes[at] & 0x7F) == wanted[at] && __builtin_popcount(bytes[at]) % 2 == 0;
+    }
+    if (!same) {
+        printf("FAILED %s: not %s\n", what, wanted);
+        failed = 1;
+    }
+}
+
+static size_t words_of(const char *text, uint16_t *words) {
+    size_t at = 0;
+    for (; text[at]; at++) {
+        uint8_t character = (uint8_t)text[at];
+        words[at] = (uint16_t)(character | (__builtin_popcount(character) % 2) << 7);
+    }
+    return at;
+}
+
+int main(void) {
+    const int32_t bench[] = {
+        'J', 2, 1, 5, -100, 100,
+        'M', 1, 1, 1, -1999, 9999,
+        'Z', 3, 0, 1, 15, 18,
+        'm', 2, 1, 5, 0, 1000,
+    };
+    const size_t bench_length = sizeof bench / sizeof *bench;
+    const int32_t maker[1] = {0};
+    int32_t values[KAV_VALUES] = {0};
+    int32_t card[KAV_CARD] = {'L', 7};
+    uint16_t words[64];
+    uint16_t normal[64];
+    uint8_t out[64];
+    uint64_t counts[2];
+
+    values['M'] = 231;
+    values['Z'] = 15;
+    values['m'] = 20;
+
+    /* Bench case e, with an address of two digits before and a message for another card behind. */
+    size_t length = words_of("xL07m#00231*L7mI*R7??*", words);
+    check("run", kav_run(card, KAV_CARD, bench, bench_length, maker, 0, values, KAV_VALUES,
+                         words, length, out, sizeof out, counts, 2), 0);
+    check("words taken", (int64_t)counts[0], (int64_t)length);
+    check_text("replies", out, (int64_t)counts[1], "L7m00201I*L7m00201A*");
+    check("run with a short card",
+          kav_run(card, 15, bench, bench_length, maker, 0, values, KAV_VALUES,
+                  words, length, out, sizeof out, counts, 2), -1);
+    check("run with short counts",
+          kav_run(card, KAV_CARD, bench, bench_length, maker, 0, values, KAV_VALUES,
+                  words, length, out, sizeof out, counts, 1), -5);
+
+    /* Bench case c, word by word. */
+    length = words_of("L7m+*", words);
+    int64_t replied = 0;
+    for (size_t at = 0; at < length; at++) {
+        replied = kav_step(card, KAV_CARD, bench, bench_length, maker, 0, values, KAV_VALUES,
+                           words[at], out, sizeof out);
+        check("step", replied, at + 1 < length ? 0 : 10);
+    }
+    check_text("reply", out, replied, "L7m00251A*");
+    check("value", values['m'], 25);
+    check("step with a part of a sheet",
+          kav_step(card, KAV_CARD, bench, bench_length - 1, maker, 0, values, KAV_VALUES,
+                   KAV_SILENCE, out, sizeof out), -2);
+    check("step with 127 values",
+          kav_step(card, KAV_CARD, bench, bench_length, maker, 0, values, KAV_VALUES - 1,
+                   KAV_SILENCE, out, sizeof out), -3);
+    check("step with no word",
+          kav_step(card, KAV_CARD, bench, bench_length, maker, 0, values, KAV_VALUES,
+                   257, out, sizeof out), -4);
+    check("step with little room",
+          kav_step(card, KAV_CARD, bench, bench_length, maker, 0, values, KAV_VALUES,
+                   KAV_SILENCE, out, 10), -5);
+
+    length = words_of("xL07M?*L7J#00006*L7", words);
+    int64_t count = kav_normal_form(words, length, normal, 64);
+    for (int64_t at = 0; at < count; at++) {
+        out[at] = (uint8_t)normal[at];
+    }
+    check_text("normal form", out, count, "L7M?*L7J#00001*");
+    check("normal form with little room", kav_normal_form(words, length, normal, 14), -5);
+
+    count = kav_write('R', 70, 'm', '#', -15, 1, out, sizeof out);
+    check_text("write", out, count, "R70m#00156*");
+    check("write with no address", kav_write('R', 0, 'm', '#', -15, 1, out, sizeof out), -7);
+    check("write with little room", kav_write('R', 70, 'm', '#', -15, 1, out, 10), -5);
+
+    int32_t answer[KAV_ANSWER];
+    uint8_t reply[16];
+    length = words_of("L7J00156I*", words);
+    for (size_t at = 0; at < length; at++) {
+        reply[at] = (uint8_t)words[at];
+    }
+    check("read", kav_read(reply, length, answer, KAV_ANSWER), KAV_ANSWER);
+    const int32_t wanted[KAV_ANSWER] = {'L', 7, 'J', 'I', 1, -15, 1};
+    check("answer", memcmp(answer, wanted, sizeof wanted), 0);
+    check("read of a part", kav_read(reply, length - 1, answer, KAV_ANSWER), -6);
+    check("read with little room", kav_read(reply, length, answer, KAV_ANSWER - 1), -5);
+
+    const char *line = "16 L7 m # 00231\n";
+    count = kav_line(16, 'L', 7, 'm', '#', 23, 1, out, sizeof out);
+    check("line", count, (int64_t)strlen(line));
+    check("its bytes", memcmp(out, line, strlen(line)), 0);
+    check("line of no message", kav_line(16, 'L', 7, '?', '+', 0, 0, out, sizeof out), -7);
+
+    int32_t row[KAV_ROW];
+    check("lookup", kav_lookup(bench, bench_length, maker, 0, 'Z', row, KAV_ROW), KAV_ROW);
+    check("row", memcmp(row, bench + 12, sizeof row), 0);
+    check("lookup of none", kav_lookup(bench, bench_length, maker, 0, 'z', row, KAV_ROW), 0);
+    check("lookup with little room", kav_lookup(bench, bench_length, maker, 0, 'Z', row, 5), -5);
+
+    if (!failed) {
+        puts("smoke: all seven functions answer");
+    }
+    return failed;
+}

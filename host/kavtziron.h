@@ -1,0 +1,115 @@
+/*
+ * The seven functions of the proved archive (libabi.a), for C.
+ *
+ * A slice passes as a pointer and then a length, counted in its own numbers. A pointer must be
+ * valid for that many numbers, aligned and not null, even with length 0; what can be written must
+ * not overlap anything else lent. Nothing is kept after a call.
+ *
+ * Each function gives 0 or more, or minus the number of a refusal:
+ *
+ *   1  the card is unsound, or its offer is one that no Type 3 could leave
+ *   2  a sheet is unsound
+ *   3  the values are not 128, or one is out of range or off its step
+ *   4  a word lent is above 256
+ *   5  room too short
+ *   6  the bytes are not one whole reply
+ *   7  what is asked for isn't a heard message
+ *
+ * A refused call changes nothing lent. Nothing behind the last number written changes.
+ *
+ * A card is 16 numbers: letter ('L' or 'R', with no parity), address, count of open characters, ten
+ * characters (0 behind), 1 or 0 for an offer, its identifier, its value (0, 0 where there is none).
+ * A sheet is 0 to 64 rows of six numbers: identifier, access (1 read only, 2 read and write, 3 write
+ * only), decimals, step, least, greatest. Values are 128 numbers, one for each character code.
+ */
+#ifndef KAVTZIRON_H
+#define KAVTZIRON_H
+
+#include <stddef.h>
+#include <stdint.h>
+
+#ifdef __cplusplus
+extern "C" {
+#endif
+
+#define KAV_CARD 16   /* numbers of a card */
+#define KAV_VALUES 128 /* values */
+#define KAV_ROW 6     /* numbers of a row */
+#define KAV_ANSWER 7  /* numbers of an answer */
+#define KAV_REPLY 11  /* no reply is longer, in bytes */
+#define KAV_LINE 35   /* no line of the listing is longer, in bytes */
+#define KAV_SILENCE 256 /* the word for a silence longer than the timeout */
+
+/*
+ * Takes one word. Gives the count of bytes replied into out; 0 is silence.
+ * The card and the values are changed in their place. out: at least 11 bytes, whatever the word.
+ * Refused with 1 (card), 2, 1 (offer), 3, 4, 5, in this order.
+ */
+int64_t kav_step(int32_t *card, size_t card_length,
+                 const int32_t *bench, size_t bench_length,
+                 const int32_t *maker, size_t maker_length,
+                 int32_t *values, size_t values_length,
+                 uint16_t word,
+                 uint8_t *out, size_t out_length);
+
+/*
+ * Takes words until all are taken or the next word's reply no longer fits in out, which isn't a
+ * refusal. Gives 0, with counts[0] words taken and counts[1] bytes written.
+ * Refused with 1 (card), 2, 1 (offer), 3, 4, and 5 where counts is shorter than two.
+ */
+int64_t kav_run(int32_t *card, size_t card_length,
+                const int32_t *bench, size_t bench_length,
+                const int32_t *maker, size_t maker_length,
+                int32_t *values, size_t values_length,
+                const uint16_t *words, size_t words_length,
+                uint8_t *out, size_t out_length,
+                uint64_t *counts, size_t counts_length);
+
+/*
+ * Writes the messages heard in a recording in their normal form, one byte to a word. Gives the
+ * count of words written, never more than were lent. Refused with 4, 5.
+ */
+int64_t kav_normal_form(const uint16_t *words, size_t words_length,
+                        uint16_t *out, size_t out_length);
+
+/*
+ * Writes one message in bytes with parity. kind is the body's first character: '?', '+', '-', '#'
+ * or 'I'; '?' with identifier '?' is Type 1. number and decimals count for '#' alone.
+ * Gives the count of bytes written, at most 11. Refused with 7, 5.
+ */
+int64_t kav_write(uint8_t letter, uint32_t address, uint8_t identifier, uint8_t kind,
+                  int32_t number, uint32_t decimals,
+                  uint8_t *out, size_t out_length);
+
+/*
+ * Reads one whole reply. Gives 7, with answer holding letter, address, identifier, 'A', 'I' or 'N',
+ * 1 or 0 for a number, the number in units of its last decimal, and its decimals (0, 0 where there
+ * is none). Refused with 6, and 5 where answer is shorter than seven.
+ */
+int64_t kav_read(const uint8_t *bytes, size_t bytes_length,
+                 int32_t *answer, size_t answer_length);
+
+/*
+ * Writes one line of the listing, line feed included, in plain ASCII; at is the position of the
+ * message's '*'. Parameters as for kav_write. Gives the count of bytes written, at most 35.
+ * Refused with 7, 5.
+ */
+int64_t kav_line(uint64_t at,
+                 uint8_t letter, uint32_t address, uint8_t identifier, uint8_t kind,
+                 int32_t number, uint32_t decimals,
+                 uint8_t *out, size_t out_length);
+
+/*
+ * Copies the row of an identifier: the bench sheet's where it has one, otherwise the maker's. Gives
+ * 6, or 0 where there is no row or a sheet is unsound. A row shorter than six is refused with 5.
+ */
+int64_t kav_lookup(const int32_t *bench, size_t bench_length,
+                   const int32_t *maker, size_t maker_length,
+                   uint8_t identifier,
+                   int32_t *row, size_t row_length);
+
+#ifdef __cplusplus
+}
+#endif
+
+#endif

@@ -1,0 +1,209 @@
+//! The calls over numbers and slices of numbers, as the C boundary has them: the yardstick that
+//! stands beside each wrapper of `abi`, with the same parameters and results.
+
+use super::card::{self, Card, Offer};
+use super::hearing::{Open, MOST};
+use super::message::{self, Data, Kind, Message};
+use super::{listing, normal, reply, sheet, Refusal};
+
+/// Letter, address, count of open characters, ten characters, offer or none, its identifier, its
+/// value.
+pub const CARD: usize = 16;
+/// Letter, address, identifier, outcome, number or none, number, decimals.
+pub const ANSWER: usize = 7;
+
+/// What the boundary's reader gives back when it isn't refused: the count of numbers written.
+pub const READ: i64 = ANSWER as i64;
+
+const fn refused(refusal: Refusal) -> i64 {
+    -(refusal.number() as i64)
+}
+
+fn counted(result: Result<usize, Refusal>) -> i64 {
+    result.map_or_else(refused, |count| count as i64)
+}
+
+/// The card that a row of sixteen is. What it can't be as a card is number 1; whether the card is
+/// sound is asked later.
+pub fn card_of(row: &[i32]) -> Option<Card> {
+    let row: &[i32; CARD] = row.try_into().ok()?;
+    let code = |number: i32| u8::try_from(number).ok();
+    let mut characters = [0; MOST];
+    for (character, &number) in characters.iter_mut().zip(&row[3..13]) {
+        *character = code(number)?;
+    }
+    let offer = match row[13..] {
+        [0, 0, 0] => None,
+        [1, identifier, value] => Some(Offer { identifier: code(identifier)?, value }),
+        _ => return None,
+    };
+    Some(Card {
+        letter: code(row[0])?,
+        address: code(row[1])?,
+        open: Open { length: code(row[2])?, characters },
+        offer,
+    })
+}
+
+/// The row of sixteen that a card is.
+pub fn row_of(card: &Card) -> [i32; CARD] {
+    let mut row = [0; CARD];
+    row[0] = i32::from(card.letter);
+    row[1] = i32::from(card.address);
+    row[2] = i32::from(card.open.length);
+    for (number, &character) in row[3..13].iter_mut().zip(&card.open.characters) {
+        *number = i32::from(character);
+    }
+    if let Some(offer) = card.offer {
+        row[13..].copy_from_slice(&[1, i32::from(offer.identifier), offer.value]);
+    }
+    row
+}
+
+/// Minus the number, or the count of bytes; 0 is silence.
+pub fn step(
+    card: &mut [i32],
+    bench: &[i32],
+    maker: &[i32],
+    values: &mut [i32],
+    word: u16,
+    out: &mut [u8],
+) -> i64 {
+    let Some(mut inner) = card_of(card) else {
+        return refused(Refusal::Card);
+    };
+    let result = card::step(&mut inner, bench, maker, values, word, out);
+    if result.is_ok() {
+        card.copy_from_slice(&row_of(&inner));
+    }
+    counted(result)
+}
+
+/// Minus the number, or 0 with `counts[0]` words taken and `counts[1]` bytes written. Counts
+/// shorter than two are number 5, after all the others.
+pub fn run(
+    card: &mut [i32],
+    bench: &[i32],
+    maker: &[i32],
+    values: &mut [i32],
+    words: &[u16],
+    out: &mut [u8],
+    counts: &mut [u64],
+) -> i64 {
+    let Some(mut inner) = card_of(card) else {
+        return refused(Refusal::Card);
+    };
+    let Some(counts) = counts.first_chunk_mut::<2>() else {
+        // The refusals before it come first; a run into copies finds them and changes nothing lent.
+        let mut values = values.to_vec();
+        let result = card::run(&mut inner, bench, maker, &mut values, words, &mut []);
+        return refused(result.err().unwrap_or(Refusal::Room));
+    };
+    match card::run(&mut inner, bench, maker, values, words, out) {
+        Ok(ran) => {
+            card.copy_from_slice(&row_of(&inner));
+            *counts = [ran.taken as u64, ran.written as u64];
+            0
+        }
+        Err(refusal) => refused(refusal),
+    }
+}
+
+/// Minus the number, or the count of words written.
+pub fn normal_form(words: &[u16], out: &mut [u16]) -> i64 {
+    counted(normal::normal_form(words, out))
+}
+
+/// The message with this body's first character. `None` where there is none such: number 7.
+#[inline]
+fn message_of(
+    letter: u8,
+    address: u32,
+    identifier: u8,
+    kind: u8,
+    number: i32,
+    decimals: u32,
+) -> Option<Message> {
+    let kind = match kind {
+        b'?' if identifier == b'?' => Kind::Status,
+        b'?' => Kind::Query,
+        b'+' => Kind::Up,
+        b'-' => Kind::Down,
+        b'#' => Kind::Set(Data { number, decimals: u8::try_from(decimals).ok()? }),
+        b'I' => Kind::Store,
+        _ => return None,
+    };
+    Some(Message { letter, address: u8::try_from(address).ok()?, identifier, kind })
+}
+
+/// Minus the number, or the count of bytes written.
+pub fn write(
+    letter: u8,
+    address: u32,
+    identifier: u8,
+    kind: u8,
+    number: i32,
+    decimals: u32,
+    out: &mut [u8],
+) -> i64 {
+    counted(
+        message_of(letter, address, identifier, kind, number, decimals)
+            .ok_or(Refusal::Message)
+            .and_then(|message| message::write(&message, out)),
+    )
+}
+
+/// Minus the number, or [`READ`] with the answer's seven numbers written. An answer shorter than
+/// that is number 5, after 6.
+pub fn read(bytes: &[u8], answer: &mut [i32]) -> i64 {
+    let read = match reply::read(bytes) {
+        Ok(read) => read,
+        Err(refusal) => return refused(refusal),
+    };
+    let Some(answer) = answer.first_chunk_mut::<ANSWER>() else {
+        return refused(Refusal::Room);
+    };
+    let (given, number, decimals) = match read.data {
+        Some(data) => (1, data.number, i32::from(data.decimals)),
+        None => (0, 0, 0),
+    };
+    *answer = [
+        i32::from(read.letter),
+        i32::from(read.address),
+        i32::from(read.identifier),
+        i32::from(read.outcome),
+        given,
+        number,
+        decimals,
+    ];
+    READ
+}
+
+/// Minus the number, or the count of bytes written.
+#[allow(clippy::too_many_arguments)]
+pub fn line(
+    at: u64,
+    letter: u8,
+    address: u32,
+    identifier: u8,
+    kind: u8,
+    number: i32,
+    decimals: u32,
+    out: &mut [u8],
+) -> i64 {
+    counted(
+        message_of(letter, address, identifier, kind, number, decimals)
+            .ok_or(Refusal::Message)
+            .and_then(|message| listing::line(at, &message, out)),
+    )
+}
+
+/// 6 with the row copied, or 0 where there is none. A room under 6 is minus 5, row or no row.
+pub fn lookup(bench: &[i32], maker: &[i32], identifier: u8, row: &mut [i32]) -> i64 {
+    let Some(row) = row.first_chunk_mut::<{ sheet::WIDTH }>() else {
+        return refused(Refusal::Room);
+    };
+    let found = sheet::lookup(bench, maker, identifier);
+    row[..found.len()].copy_from_slice(found);
+    found.len() as i64
+}

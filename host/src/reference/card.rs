@@ -1,0 +1,224 @@
+//! What the card does.
+
+use super::hearing::Open;
+use super::message::{is_letter, Data, Kind, Message, Spelled};
+use super::parity::{all_words, SILENCE};
+use super::sheet::{Row, Rows, READ_AND_WRITE, VALUES};
+use super::Refusal;
+
+/// No reply is longer.
+pub const LONGEST_REPLY: usize = 11;
+
+#[derive(Clone, Copy, Debug, PartialEq, Eq)]
+pub struct Offer {
+    pub identifier: u8,
+    pub value: i32,
+}
+
+#[derive(Clone, Copy, Debug, PartialEq, Eq)]
+pub struct Card {
+    /// `L` or `R`, with no parity.
+    pub letter: u8,
+    pub address: u8,
+    pub open: Open,
+    pub offer: Option<Offer>,
+}
+
+/// Words taken and bytes written.
+#[derive(Clone, Copy, Debug, PartialEq, Eq)]
+pub struct Ran {
+    pub taken: usize,
+    pub written: usize,
+}
+
+/// What a heard message does, before it is done.
+struct Effect {
+    /// The identifier's new value, if it gets one.
+    value: Option<i32>,
+    offer: Option<Offer>,
+    reply: Option<Reply>,
+}
+
+struct Reply {
+    outcome: u8,
+    data: Option<Data>,
+}
+
+impl Card {
+    /// Letter, address and open message; the offer is judged apart, after the sheets.
+    pub fn is_sound_but_for_offer(&self) -> bool {
+        is_letter(self.letter) && matches!(self.address, 1..=99) && self.open.is_sound()
+    }
+
+    /// What a Type 3 could leave: a multiple of the step, in range, of a row that can be written.
+    fn has_sound_offer(&self, rows: &Rows) -> bool {
+        self.offer.is_none_or(|offer| {
+            rows.get(offer.identifier).is_some_and(|row| row.can_be_written() && row.admits(offer.value))
+        })
+    }
+
+    /// Numbers 1, 2, 1 for the offer, and 3.
+    #[inline]
+    fn admit<'s, 'v>(
+        &self,
+        bench: &'s [i32],
+        maker: &'s [i32],
+        values: &'v mut [i32],
+    ) -> Result<(Rows<'s>, &'v mut [i32; VALUES]), Refusal> {
+        if !self.is_sound_but_for_offer() {
+            return Err(Refusal::Card);
+        }
+        let rows = Rows::of(bench, maker).ok_or(Refusal::Sheet)?;
+        if !self.has_sound_offer(&rows) {
+            return Err(Refusal::Card);
+        }
+        let values = rows.admit(values).ok_or(Refusal::Values)?;
+        Ok((rows, values))
+    }
+
+    /// What a message as heard does to a card that has closed it.
+    #[inline]
+    fn effect(&self, message: &Message, rows: &Rows, values: &[i32; VALUES]) -> Effect {
+        let silence = Effect { value: None, offer: None, reply: None };
+        if message.letter != self.letter || message.address != self.address {
+            return silence;
+        }
+        let identifier = message.identifier;
+        let row = rows.get(identifier);
+        let stored = values[usize::from(identifier & 0x7F)];
+        let replied = |outcome, number, row: &Row| {
+            Some(Reply { outcome, data: Some(Data { number, decimals: row.decimals }) })
+        };
+        let accepted = match message.kind {
+            Kind::Status => {
+                return Effect { reply: Some(Reply { outcome: b'A', data: None }), ..silence };
+            }
+            Kind::Query => row
+                .filter(Row::can_be_read)
+                .map(|row| Effect { reply: replied(b'A', stored, &row), ..silence }),
+            Kind::Up | Kind::Down => row.and_then(|row| {
+                let step = if message.kind == Kind::Up { row.step } else { -row.step };
+                let value = stored + step;
+                (row.access == READ_AND_WRITE && row.in_range(value)).then(|| Effect {
+                    value: Some(value),
+                    reply: replied(b'A', value, &row),
+                    ..silence
+                })
+            }),
+            Kind::Set(Data { number, decimals }) => row
+                .filter(|row| row.can_be_written() && row.decimals == decimals && row.in_range(number))
+                .map(|row| {
+                    let value = row.cut(number);
+                    Effect {
+                        value: None,
+                        offer: Some(Offer { identifier, value }),
+                        reply: replied(b'I', value, &row),
+                    }
+                }),
+            Kind::Store => {
+                return match (self.offer, row) {
+                    (Some(offer), Some(row)) if offer.identifier == identifier => Effect {
+                        value: Some(offer.value),
+                        offer: None,
+                        reply: replied(b'A', offer.value, &row),
+                    },
+                    _ => silence,
+                };
+            }
+        };
+        accepted.unwrap_or_else(|| {
+            let data = match row {
+                Some(row) if row.can_be_read() => Data { number: stored, decimals: row.decimals },
+                _ => Data { number: 0, decimals: 0 },
+            };
+            Effect { value: None, offer: None, reply: Some(Reply { outcome: b'N', data: Some(data) }) }
+        })
+    }
+
+    /// Closes the open message: the `*` is taken. Gives the bytes written, or `None`, with nothing
+    /// changed, where the reply doesn't fit.
+    #[inline]
+    fn close(&mut self, rows: &Rows, values: &mut [i32; VALUES], out: &mut [u8]) -> Option<usize> {
+        let Some(message) = self.open.heard() else {
+            self.open.close();
+            return Some(0);
+        };
+        let effect = self.effect(&message, rows, values);
+        let written = match &effect.reply {
+            Some(reply) => spell_reply(self, message.identifier, reply, out)?,
+            None => 0,
+        };
+        if let Some(value) = effect.value {
+            values[usize::from(message.identifier & 0x7F)] = value;
+        }
+        self.offer = effect.offer;
+        self.open.close();
+        Some(written)
+    }
+}
+
+/// Gives the length, or `None`, with nothing written, where there is no room.
+#[inline]
+fn spell_reply(card: &Card, identifier: u8, reply: &Reply, out: &mut [u8]) -> Option<usize> {
+    let mut spelled = Spelled::head(card.letter, card.address, identifier);
+    if let Some(data) = reply.data {
+        spelled.put_data(data);
+    }
+    spelled.put(reply.outcome);
+    spelled.put(b'*');
+    let bytes = spelled.bytes();
+    out.get_mut(..bytes.len())?.copy_from_slice(bytes);
+    Some(bytes.len())
+}
+
+/// Takes one word. Gives the bytes replied, 0 being silence. Refused with 1, 2, 1, 3, 4, 5.
+pub fn step(
+    card: &mut Card,
+    bench: &[i32],
+    maker: &[i32],
+    values: &mut [i32],
+    word: u16,
+    out: &mut [u8],
+) -> Result<usize, Refusal> {
+    let (rows, values) = card.admit(bench, maker, values)?;
+    if word > SILENCE {
+        return Err(Refusal::Word);
+    }
+    if out.len() < LONGEST_REPLY {
+        return Err(Refusal::Room);
+    }
+    if card.open.to_close(&[word]) == 1 {
+        return Ok(0);
+    }
+    card.close(&rows, values, out).ok_or(Refusal::Room)
+}
+
+/// Takes words until all are taken or the next word's reply no longer fits. Refused with 1, 2, 1, 3,
+/// 4.
+pub fn run(
+    card: &mut Card,
+    bench: &[i32],
+    maker: &[i32],
+    values: &mut [i32],
+    words: &[u16],
+    out: &mut [u8],
+) -> Result<Ran, Refusal> {
+    let (rows, values) = card.admit(bench, maker, values)?;
+    if !all_words(words) {
+        return Err(Refusal::Word);
+    }
+    let mut taken = 0;
+    let mut written = 0;
+    loop {
+        taken += card.open.to_close(&words[taken..]);
+        if taken == words.len() {
+            break;
+        }
+        match card.close(&rows, values, &mut out[written..]) {
+            Some(length) => written += length,
+            None => break,
+        }
+        taken += 1;
+    }
+    Ok(Ran { taken, written })
+}
