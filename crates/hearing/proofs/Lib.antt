@@ -1,3 +1,4 @@
+pub mod Close
 pub mod Heard
 pub mod Normal
 pub mod Loops

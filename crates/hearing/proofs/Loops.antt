@@ -1,4 +1,4 @@
--- What the two passes of the normal form carry from word to word, in tail style: what is still to come, behind what is done, is the
+-- What the two passes of the normal form carry from message to message, in tail style: what is still to come, behind what is done, is the
 -- whole. Assumes nothing.
 use mathlib.Core.Path.{_≡_, refl, sym, ap, _∙_, subst}
 use mathlib.Core.Bool.{Bool, true, false, cond}
@@ -19,12 +19,15 @@ use Rattle.wire.proofs.Lines.{placed-paste}
 use Rattle.message.specs.declared.Message.{Message}
 use Rattle.message.specs.declared.Parsed.{Parsed}
 use Rattle.message.specs.declared.Parsed.the-variants.{Heard, Unheard}
+use Rattle.message.specs.Scan.{parse}
 use Rattle.hearing.specs.declared.Pending.{Pending}
 use Rattle.hearing.specs.declared.Hearing.{Hearing}
+use Rattle.hearing.specs.declared.Reached.{Reached}
 use Rattle.hearing.specs.declared.Count.{Count}
 use Rattle.hearing.specs.declared.Count.the-variants.{Fits, TooLong}
-use Rattle.hearing.specs.Hearing.{none, hear, before, heardFrom, heard}
+use Rattle.hearing.specs.Hearing.{none, openOf, hear, before, heardFrom, heard, toClose}
 use Rattle.hearing.specs.Normal.{worth, wordsOf, normal, countOf, normalCall}
+use Rattle.hearing.proofs.Close.{reached, reached-hears}
 
 -- the normal form of what is still to come
 unfoldable pub normalFrom : Pending → List ℕ → List ℕ
@@ -39,87 +42,109 @@ pub normal-whole : (ws : List ℕ) → normal ws ≡ normalFrom none ws
 unfolding normal heard normalFrom
 normal-whole ws = refl
 
-pub normal-more : (p : Pending) (ws : List ℕ) (i : ℕ) → i < length ws → normalFrom p (drop i ws) ≡ worth (hear p (getD ws i 0) .message) ++ normalFrom (hear p (getD ws i 0) .pending) (drop (i + 1) ws)
-unfolding normalFrom heardFrom
-normal-more p ws i h =
-    let x = hear p (getD ws i 0) in
-    ap (λ (l : List ℕ). wordsOf (heardFrom p l)) (drop-cons ws i 0 h)
-    ∙ words-before (x .message) (heardFrom (x .pending) (drop (suc i) ws))
-    ∙ ap (λ (k : ℕ). worth (x .message) ++ wordsOf (heardFrom (x .pending) (drop k ws))) (sym (add-one i))
+-- an unheard word adds nothing
+normal-unheard : (p : Pending) (ws : List ℕ) (i : ℕ) → i < length ws → hear p (getD ws i 0) .message ≡ Unheard → normalFrom p (drop i ws) ≡ normalFrom (hear p (getD ws i 0) .pending) (drop (i + 1) ws)
+unfolding normalFrom heardFrom before
+normal-unheard p ws i h e = rw (drop-cons ws i 0 h) (rw (e, add-one i) refl)
 
-pub normal-done : (p : Pending) (ws : List ℕ) (i : ℕ) → length ws ≤ i → normalFrom p (drop i ws) ≡ []
+-- the words up to one that closes a message add nothing
+normal-reached : (p : Pending) (ws : List ℕ) (i : ℕ) → normalFrom p (drop i ws) ≡ normalFrom (toClose p (drop i ws) i .pending) (drop (toClose p (drop i ws) i .at) ws)
+normal-reached p ws i =
+    reached ws (λ (q : Pending) (k : ℕ). normalFrom p (drop i ws) ≡ normalFrom q (drop k ws)) (λ q k l u g. g ∙ normal-unheard q ws k l u) p i refl
+
+-- a word that closes a message adds it
+normal-more : (p : Pending) (ws : List ℕ) (i : ℕ) → i < length ws → (o : Parsed) → hear p (getD ws i 0) ≡ record { pending = none; message = o } → normalFrom p (drop i ws) ≡ worth o ++ normalFrom none (drop (i + 1) ws)
+unfolding normalFrom heardFrom
+normal-more p ws i h o e = rw (drop-cons ws i 0 h) (rw (e, add-one i) (words-before o (heardFrom none (drop (suc i) ws))))
+
+normal-done : (p : Pending) (ws : List ℕ) (i : ℕ) → length ws ≤ i → normalFrom p (drop i ws) ≡ []
 unfolding normalFrom heardFrom wordsOf
 normal-done p ws i h = rw (drop-of-length-le ws h)
 
+pub normal-past : (ws : List ℕ) (i : ℕ) → length ws ≤ i → normalFrom none (drop i ws) ≡ []
+normal-past ws i h = normal-done none ws i h
+
+-- the words from a place on with none open, by where they reach
+module _ (ws : List ℕ) (i : ℕ) where
+  abbrev pub next : Reached
+  next = toClose none (drop i ws) i
+
+  pub normal-over : length ws ≤ next .at → normalFrom none (drop i ws) ≡ []
+  normal-over h = normal-reached none ws i ∙ normal-done (next .pending) ws (next .at) h
+
+  pub normal-closed : next .at < length ws → normalFrom none (drop i ws) ≡ worth (parse (openOf (next .pending))) ++ normalFrom none (drop (next .at + 1) ws)
+  normal-closed h = normal-reached none ws i ∙ normal-more (next .pending) ws (next .at) h (parse (openOf (next .pending))) (reached-hears ws none i h)
+
 -- ---- the counting pass
 
-pub record Counted (ws : List ℕ) (room : ℕ) (p : Pending) (n i : ℕ) : Type 0 where
+pub record Counted (ws : List ℕ) (room n i : ℕ) : Type 0 where
   pub i-in : i ≤ length ws
   pub n-in : n ≤ room
-  pub whole : length (normal ws) ≡ n + length (normalFrom p (drop i ws))
+  pub whole : length (normal ws) ≡ n + length (normalFrom none (drop i ws))
 
-pub counts : (ws : List ℕ) (room : ℕ) → Counted ws room none 0 0
+pub counts : (ws : List ℕ) (room : ℕ) → Counted ws room 0 0
 counts ws room = record { i-in = omega arith; n-in = omega arith; whole = omega (arith, ap length (normal-whole ws)) }
 
--- a word is taken: the hearing h and the length k of what it has heard, as the code has them
-module _ (ws : List ℕ) (room : ℕ) (p : Pending) (n i : ℕ) (c : Counted ws room p n i) (h : Hearing) (k : ℕ)
-    (e : h ≡ hear p (getD ws i 0)) (l : k ≡ length (worth (h .message))) (in′ : i < length ws) where
-  more : length (normal ws) ≡ n + (k + length (normalFrom (h .pending) (drop (i + 1) ws)))
-  more =
-      c .whole
-      ∙ ap (λ (m : ℕ). n + m)
-      (ap length (normal-more p ws i in′)
-      ∙ ap (λ (x : Hearing). length (worth (x .message) ++ normalFrom (x .pending) (drop (i + 1) ws))) (sym e)
-      ∙ length-append (worth (h .message)) (normalFrom (h .pending) (drop (i + 1) ws))
-      ∙ ap (λ (m : ℕ). m + length (normalFrom (h .pending) (drop (i + 1) ws))) (sym l))
+module _ (ws : List ℕ) (room n i : ℕ) (c : Counted ws room n i) where
+  -- a message is closed: its length k, as the code has it
+  module _ (h : next ws i .at < length ws) (k : ℕ) (l : k ≡ length (worth (parse (openOf (next ws i .pending))))) where
+    more : length (normal ws) ≡ n + (k + length (normalFrom none (drop (next ws i .at + 1) ws)))
+    more =
+        c .whole
+        ∙ ap (λ (m : ℕ). n + m)
+        (ap length (normal-closed ws i h)
+        ∙ length-append (worth (parse (openOf (next ws i .pending)))) (normalFrom none (drop (next ws i .at + 1) ws))
+        ∙ ap (λ (m : ℕ). m + length (normalFrom none (drop (next ws i .at + 1) ws))) (sym l))
 
-  pub counted : k ≤ room - n → Counted ws room (h .pending) (n + k) (i + 1)
-  counted r = let a = c .n-in in record { i-in = omega arith; n-in = omega arith; whole = omega (arith, more) }
+    pub counted : k ≤ room - n → Counted ws room (n + k) (next ws i .at + 1)
+    counted r = let a = c .n-in in record { i-in = omega arith; n-in = omega arith; whole = omega (arith, more) }
 
-  pub too-long : room - n < k → countOf (length (normal ws)) room ≡ TooLong
+    pub too-long : room - n < k → countOf (length (normal ws)) room ≡ TooLong
+    unfolding countOf
+    too-long r = let a = c .n-in in rw (lt-leb (length (normal ws)) room (omega (arith, more)))
+
+  -- nothing more is heard
+  pub count-ends : normalFrom none (drop i ws) ≡ [] → countOf (length (normal ws)) room ≡ Fits n
   unfolding countOf
-  too-long r = let a = c .n-in in rw (lt-leb (length (normal ws)) room (omega (arith, more)))
-
-pub count-ends : (ws : List ℕ) (room : ℕ) (p : Pending) (n i : ℕ) → Counted ws room p n i → length ws ≤ i → countOf (length (normal ws)) room ≡ Fits n
-unfolding countOf
-count-ends ws room p n i c h =
-    let e : length (normal ws) ≡ n = omega (arith, c .whole, ap length (normal-done p ws i h)) in
-    let a = c .n-in in
-    ap (λ (m : ℕ). cond (leb m room) (Fits m) TooLong) e ∙ rw (le-leb n room a)
+  count-ends d =
+      let e : length (normal ws) ≡ n = omega (arith, c .whole, ap length d) in
+      let a = c .n-in in
+      ap (λ (m : ℕ). cond (leb m room) (Fits m) TooLong) e ∙ rw (le-leb n room a)
 
 -- ---- the writing pass
 
-pub record Filled (ws out₀ : List ℕ) (out : List ℕ) (p : Pending) (at i : ℕ) : Type 0 where
+pub record Filled (ws out₀ : List ℕ) (out : List ℕ) (at i : ℕ) : Type 0 where
   pub i-in : i ≤ length ws
   pub at-in : at ≤ length out₀
   pub long : length out ≡ length out₀
   pub behind : drop at out ≡ drop at out₀
-  pub whole : normal ws ≡ take at out ++ normalFrom p (drop i ws)
+  pub whole : normal ws ≡ take at out ++ normalFrom none (drop i ws)
 
-pub fills : (ws out : List ℕ) → Filled ws out out none 0 0
+pub fills : (ws out : List ℕ) → Filled ws out out 0 0
 fills ws out = record { i-in = omega arith; at-in = omega arith; long = refl; behind = refl; whole = normal-whole ws }
 
-module _ (ws out₀ out : List ℕ) (p : Pending) (at i : ℕ) (f : Filled ws out₀ out p at i) where
-  module _ (h : Hearing) (e : h ≡ hear p (getD ws i 0)) (in′ : i < length ws) where
-    more-words : normal ws ≡ (take at out ++ worth (h .message)) ++ normalFrom (h .pending) (drop (i + 1) ws)
+module _ (ws out₀ out : List ℕ) (at i : ℕ) (f : Filled ws out₀ out at i) where
+  -- a message is closed
+  module _ (h : next ws i .at < length ws) (o : Parsed) (e : o ≡ parse (openOf (next ws i .pending))) where
+    more-words : normal ws ≡ (take at out ++ worth o) ++ normalFrom none (drop (next ws i .at + 1) ws)
     more-words =
         f .whole
         ∙ ap (λ (l : List ℕ). take at out ++ l)
-        (normal-more p ws i in′ ∙ ap (λ (x : Hearing). worth (x .message) ++ normalFrom (x .pending) (drop (i + 1) ws)) (sym e))
-        ∙ sym (append-assoc (take at out) (worth (h .message)) (normalFrom (h .pending) (drop (i + 1) ws)))
+        (normal-closed ws i h ∙ ap (λ (x : Parsed). worth x ++ normalFrom none (drop (next ws i .at + 1) ws)) (sym e))
+        ∙ sym (append-assoc (take at out) (worth o) (normalFrom none (drop (next ws i .at + 1) ws)))
 
     -- there is room for it
-    pub has-room : length (normal ws) ≤ length out₀ → at + length (worth (h .message)) ≤ length out
+    pub has-room : length (normal ws) ≤ length out₀ → at + length (worth o) ≤ length out
     has-room r =
         let a = f .at-in in
         let b = f .long in
         let t : length (take at out) ≡ at = length-take-le at out (omega arith) in
         omega (arith, simp length-append at (ap length more-words))
 
-    pub filled : (out′ : List ℕ) (at′ : ℕ) → length (normal ws) ≤ length out₀ → at′ ≡ at + length (worth (h .message)) → out′ ≡ placed (worth (h .message)) at out
-        → Filled ws out₀ out′ (h .pending) at′ (i + 1)
+    pub filled : (out′ : List ℕ) (at′ : ℕ) → length (normal ws) ≤ length out₀ → at′ ≡ at + length (worth o) → out′ ≡ placed (worth o) at out
+        → Filled ws out₀ out′ at′ (next ws i .at + 1)
     filled out′ at′ r ea eo =
-        let xs = worth (h .message) in
+        let xs = worth o in
         let b = f .long in
         let fits : at + length xs ≤ length out = has-room r in
         let in-front : at ≤ length out = omega arith in
@@ -139,7 +164,7 @@ module _ (ws out₀ out : List ℕ) (p : Pending) (at i : ℕ) (f : Filled ws ou
               ∙ ap (λ (k : ℕ). drop k out₀) (sym ea);
           whole =
               more-words
-              ∙ ap (λ (l : List ℕ). l ++ normalFrom (h .pending) (drop (i + 1) ws))
+              ∙ ap (λ (l : List ℕ). l ++ normalFrom none (drop (next ws i .at + 1) ws))
               (sym
               (ap (λ (k : ℕ). take k out′) ea
               ∙ ap (take (at + length xs)) paste-is
@@ -147,13 +172,13 @@ module _ (ws out₀ out : List ℕ) (p : Pending) (at i : ℕ) (f : Filled ws ou
               ∙ ap (λ (l : List ℕ). take at out ++ l) (take-length xs)));
         }
 
-  -- all words are taken
-  pub fill-ends : length ws ≤ i → out ≡ laid (normal ws) out₀
+  -- nothing more is heard
+  pub fill-ends : normalFrom none (drop i ws) ≡ [] → out ≡ laid (normal ws) out₀
   unfolding laid
-  fill-ends h =
+  fill-ends d =
       let a = f .at-in in
       let b = f .long in
-      let e : normal ws ≡ take at out = f .whole ∙ ap (λ (l : List ℕ). take at out ++ l) (normal-done p ws i h) ∙ append-nil (take at out) in
+      let e : normal ws ≡ take at out = f .whole ∙ ap (λ (l : List ℕ). take at out ++ l) d ∙ append-nil (take at out) in
       let n : length (normal ws) ≡ at = ap length e ∙ length-take-le at out (omega arith) in
       sym (take-append-drop at out)
       ∙ ap (λ (l : List ℕ). l ++ drop at out) (sym e)

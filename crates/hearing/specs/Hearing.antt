@@ -1,5 +1,5 @@
 -- Hearing: what one word does to the open message, and the messages heard in a list of words.
-use mathlib.Core.Bool.{cond}
+use mathlib.Core.Bool.{Bool, true, false, cond}
 use mathlib.Core.List.{List, [], _∷_}
 use Prim.Native.Nat.{ℕ, _+_}
 use lib.Dec.{ltb, eqb}
@@ -16,6 +16,7 @@ use Rattle.hearing.specs.declared.Pending.{Pending}
 use Rattle.hearing.specs.declared.Action.{Action}
 use Rattle.hearing.specs.declared.Action.the-variants.{Ignore, Open, Add, Close, Drop}
 use Rattle.hearing.specs.declared.Hearing.{Hearing}
+use Rattle.hearing.specs.declared.Reached.{Reached}
 
 -- document 01: "A message holds at most 10 characters before `*`"
 abbrev pub most : ℕ
@@ -73,6 +74,18 @@ heardFrom p (w ∷ ws) = before (hear p w .message) (heardFrom (hear p w .pendin
 unfoldable pub openAfter : Pending → List ℕ → Pending
 openAfter p [] = p
 openAfter p (w ∷ ws) = openAfter (hear p w .pending) ws
+
+abbrev pub closes : Action → Bool
+closes Ignore = false
+closes (Open c) = false
+closes (Add c) = false
+closes Close = true
+closes Drop = false
+
+-- up to a word that closes the open message, or behind the last: the message open there, and the place
+unfoldable pub toClose : Pending → List ℕ → ℕ → Reached
+toClose p [] at = record { pending = p; at = at }
+toClose p (w ∷ ws) at = cond (closes (actionOf p w)) (record { pending = p; at = at }) (toClose (hear p w .pending) ws (at + 1))
 
 -- document 01: "The messages heard in a recording are those heard when its words are taken in order, with none open before its
 -- first word, whatever their letter and address."

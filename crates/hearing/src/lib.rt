@@ -1,11 +1,14 @@
 // Hearing: what a word does to the open message, and the normal form of a recording.
 ghost use mathlib.Core.Path.{_≡_};
 ghost use Prim.Native.Nat.{_+_, _≤_};
-ghost use lib.ListN.{length};
+ghost use lib.ListN.{length, drop};
+ghost use mathlib.Core.Bool.{cond};
+ghost use lib.Dec.{eqb};
 ghost use Rattle.refusal.specs.Refusal.{outcomeOf};
 ghost use Rattle.refusal.specs.Call.{laid};
+ghost use Rattle.wire.specs.Word.{received};
 ghost use Rattle.wire.specs.Line.{placed};
-ghost use Rattle.hearing.specs.Hearing.{none, added, openOf, opening, continuing, actionOf, perform, hear};
+ghost use Rattle.hearing.specs.Hearing.{none, added, openOf, opening, continuing, actionOf, perform, hear, toClose};
 ghost use Rattle.hearing.specs.Sound.{plain, zeros, soundPending};
 ghost use Rattle.hearing.specs.Normal.{worth, normal, normalCall, countOf};
 ghost use Rattle.message.specs.Scan.{parse};
@@ -78,12 +81,7 @@ impl Pending {
     pub fn action(self, word: u16) -> Action
         ensures { λ r. ⌜ r ≡ actionOf self word ⌝ }
     {
-        let received = wire::receive(word);
-        if self.len == 0 {
-            opening(received)
-        } else {
-            continuing(received)
-        }
+        action_at(self.len, word)
     }
 
     // 0 to 10 seven-bit characters without `*`, the first `L` or `R`, and 0 behind.
@@ -168,6 +166,63 @@ pub fn hear(pending: Pending, word: u16) -> Hearing
     }
 }
 
+// Where a hearing stands: the open message, and the place of the next word.
+pub struct Reached {
+    pub pending: Pending,
+    pub at: usize,
+}
+
+// What a word does with so many characters open.
+fn action_at(len: usize, word: u16) -> Action
+    ensures { λ r. ⌜ r ≡ cond (eqb len 0) (opening (received word)) (continuing (received word)) ⌝ }
+{
+    let received = wire::receive(word);
+    if len == 0 {
+        opening(received)
+    } else {
+        continuing(received)
+    }
+}
+
+// Takes the words from a place on, up to a `*` that closes the open message: that one is left. No message is heard on the way.
+pub fn to_close(pending: Pending, words: &[u16], from: usize) -> Reached
+    ensures { λ r. ⌜ r ≡ toClose pending (drop from (now (words .entry))) from ⌝ }
+{
+    let mut chars = pending.chars;
+    let mut len = pending.len;
+    let mut at = from;
+    while at < words.len() {
+        let action = action_at(len, words[at]);
+        match action {
+            Action::Ignore => {}
+            Action::Open(c) => {
+                chars = [0u8; MOST];
+                chars[0] = c;
+                len = 1;
+            }
+            Action::Add(c) => {
+                if len < MOST {
+                    chars[len] = c;
+                    len += 1;
+                } else {
+                    chars = [0u8; MOST];
+                    len = 0;
+                }
+            }
+            Action::Close => {
+                break;
+            }
+            Action::Drop => {
+                chars = [0u8; MOST];
+                len = 0;
+            }
+        }
+        at += 1;
+    }
+    let pending = Pending { chars, len };
+    Reached { pending, at }
+}
+
 // How long a normal form is, where it fits the room.
 enum Count {
     Fits(usize),
@@ -188,19 +243,22 @@ fn count_of(message: Parsed) -> usize
 fn measure(words: &[u16], room: usize) -> Count
     ensures { λ r. ⌜ r ≡ countOf (length (normal (now (words .entry)))) room ⌝ }
 {
-    let mut pending = Pending::new();
     let mut n: usize = 0;
     let mut i = 0;
     while i < words.len() {
-        let heard = hear(pending, words[i]);
-        let message = heard.message;
+        let reached = to_close(Pending::new(), words, i);
+        let at = reached.at;
+        if words.len() <= at {
+            break;
+        }
+        let pending = reached.pending;
+        let message = pending.close();
         let more = count_of(message);
         if room - n < more {
             return Count::TooLong;
         }
         n += more;
-        pending = heard.pending;
-        i += 1;
+        i = at + 1;
     }
     Count::Fits(n)
 }
@@ -236,15 +294,18 @@ fn fill(words: &[u16], out: &mut [u16])
     requires { ⌜ length (normal (now words)) ≤ length (now out) ⌝ }
     ensures { λ _. ⌜ now (out .exit) ≡ laid (normal (now (words .entry))) (now (out .entry)) ⌝ }
 {
-    let mut pending = Pending::new();
     let mut at = 0;
     let mut i = 0;
     while i < words.len() {
-        let heard = hear(pending, words[i]);
-        let message = heard.message;
+        let reached = to_close(Pending::new(), words, i);
+        let stop = reached.at;
+        if words.len() <= stop {
+            break;
+        }
+        let pending = reached.pending;
+        let message = pending.close();
         at = put(message, out, at);
-        pending = heard.pending;
-        i += 1;
+        i = stop + 1;
     }
 }
 

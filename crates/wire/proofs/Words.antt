@@ -105,6 +105,10 @@ travelling-length cs = length-map cs withParity
 -- ---- a test of each, from an index on
 
 module _ (f : ℕ → Bool) (xs : List ℕ) (i : ℕ) (h : i < length xs) where
+  pub every-first : every f (drop i xs) ≡ f (getD xs i 0) && every f (drop (i + 1) xs)
+  unfolding every
+  every-first = rw (add-one, drop-cons xs i 0 h) refl
+
   pub every-more : f (getD xs i 0) ≡ true → every f (drop i xs) ≡ every f (drop (i + 1) xs)
   unfolding every
   every-more e = rw (add-one, drop-cons xs i 0 h) (rw e)

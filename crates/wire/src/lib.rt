@@ -56,18 +56,17 @@ pub fn receive(word: u16) -> Received
     }
 }
 
-// Whether no word is above 256.
+// Whether no word is above 256. There is no early way out, so that many words are tested at a time.
 pub fn valid_words(words: &[u16]) -> bool
     ensures { λ r. ⌜ r ≡ validWords (now (words .entry)) ⌝ }
 {
+    let mut valid = true;
     let mut i = 0;
     while i < words.len() {
-        if 256 < words[i] {
-            return false;
-        }
+        valid = valid & (words[i] <= 256);
         i += 1;
     }
-    true
+    valid
 }
 
 impl Line {

@@ -1,58 +1,93 @@
 -- `hearing::fill` meets its contract. The loop's invariant: what is written and what is still to come are the whole, and what
 -- lies behind is as it was. Assumes nothing.
-use mathlib.Core.Path.{_≡_, sym, subst}
-use Prim.Native.Nat.{_-_}
+use mathlib.Core.Path.{_≡_, sym, ap, _∙_, subst}
+use mathlib.Core.List.{List}
+use Prim.Native.Nat.{ℕ, _+_, _-_, _<_, _≤_}
 use native.Mathlib.Omega.{arith}
-use lib.ListN.{length}
+use lib.ListN.{length, drop}
+use Rattle.message.specs.Scan.{parse}
 use Rattle.hearing.specs.declared.Pending.{Pending}
-use Rattle.hearing.proofs.Loops.{Filled, fills, filled, has-room, fill-ends}
+use Rattle.hearing.specs.declared.Reached.{Reached}
+use Rattle.hearing.specs.Hearing.{none, openOf, toClose}
+use Rattle.hearing.proofs.Close.{reached-in}
+use Rattle.hearing.proofs.Loops.{next, normal-over, normal-past, Filled, fills, filled, has-room, fill-ends}
 use Rattle.hearing.proofs.fill.Statement.{statement}
 use Rattle.hearing.proofs.fill.Tie as tie
 
 abbrev Inv-loop : tie.InvT-loop
-Inv-loop words out₀ pending₀ at₀ i₀ out pending at i = Filled words out₀ out pending at i
+Inv-loop words out₀ at₀ i₀ out at i = Filled words out₀ out at i
 
 abbrev μ-loop : tie.MeasureT-loop
-μ-loop words out₀ pending₀ at₀ i₀ out pending at i = length words - i
+μ-loop words out₀ at₀ i₀ out at i = length words - i
+
+loop-holds : tie.Need-loop-holds Inv-loop μ-loop
+loop-holds c = let a = c .before .before .args in fills (a .words .now) (a .out .now)
 
 new-requires : tie.Need-new-requires Inv-loop μ-loop
 new-requires c κs = tt
 
-loop-holds : tie.Need-loop-holds Inv-loop μ-loop
-loop-holds c =
-    let a = c .before .before .before .args in
-    subst (λ (p : Pending). Filled (a .words .now) (a .out .now) (a .out .now) p 0 0) (sym (c .new .ensures)) (fills (a .words .now) (a .out .now))
+to-close-requires : tie.Need-to-close-requires Inv-loop μ-loop
+to-close-requires c κs = tt
 
-mul-hear : tie.Need-mul-hear Inv-loop μ-loop
-mul-hear c = omega arith
+close-requires : tie.Need-close-requires Inv-loop μ-loop
+close-requires c κs = tt
 
-shared-slice-read-hear : tie.Need-shared-slice-read-hear Inv-loop μ-loop
-shared-slice-read-hear c = omega arith
+-- where the words reach, as the code has it
+module _ (t : tie.After-to-close Inv-loop μ-loop) where
+  abbrev at-loop : tie.At-loop Inv-loop μ-loop
+  at-loop = t .before .before .before
 
-hear-requires : tie.Need-hear-requires Inv-loop μ-loop
-hear-requires c κs = tt
+  abbrev words : List ℕ
+  words = at-loop .before .before .before .args .words .now
+
+  abbrev out₀ : List ℕ
+  out₀ = at-loop .before .before .before .args .out .now
+
+  is-next : t .to-close .result ≡ next words (at-loop .loop .i)
+  is-next = t .to-close .ensures ∙ ap (λ (p : Pending). toClose p (drop (at-loop .loop .i) words) (at-loop .loop .i)) (t .before .new .ensures)
+
+  at-is : t .to-close .result .at ≡ next words (at-loop .loop .i) .at
+  at-is = ap (λ (r : Reached). r .at) is-next
+
+-- a message is closed
+module _ (m : tie.After-close Inv-loop μ-loop) where
+  abbrev closing : tie.After-to-close Inv-loop μ-loop
+  closing = m .before .before .before
+
+  stopped : closing .to-close .result .at < length (words closing)
+  stopped = m .before .before .if1 .left
+
+  before-end : next (words closing) (at-loop closing .loop .i) .at < length (words closing)
+  before-end = omega (arith, at-is closing, stopped)
+
+  closed-is : m .close .result ≡ parse (openOf (next (words closing) (at-loop closing .loop .i) .pending))
+  closed-is = m .close .ensures ∙ ap (λ (r : Reached). parse (openOf (r .pending))) (is-next closing)
 
 put-requires : tie.Need-put-requires Inv-loop μ-loop
 put-requires c κs =
-    let h = c .before in
-    let l = h .before .before .before in
-    let s = l .before .before .before .before in
-    has-room (s .args .words .now) (s .args .out .now) (l .loop .out) (l .loop .pending) (l .loop .at) (l .loop .i) (l .loop .inv) (h .hear .result) (h .hear .ensures) (h .before .before .loop-test .taken) (s .pre)
+    let m = c .before in
+    let t = closing m in
+    let l = at-loop t in
+    has-room (words t) (out₀ t) (l .loop .out) (l .loop .at) (l .loop .i) (l .loop .inv) (before-end m) (m .close .result) (closed-is m) (l .before .before .before .pre)
 
 add-i : tie.Need-add-i Inv-loop μ-loop
-add-i c = omega arith
+add-i c = omega (arith, stopped (c .before .before .before .before))
 
 loop-less : tie.Need-loop-less Inv-loop μ-loop
-loop-less c = omega arith
+loop-less c =
+    let m = c .before .before .before .before in
+    let t = closing m in
+    omega (arith, stopped m, at-is t, reached-in (words t) none (at-loop t .loop .i) (at-loop t .loop .inv .i-in) .0)
 
 loop-again : tie.Need-loop-again Inv-loop μ-loop
 loop-again c =
-    let p = c .before .before .before in
-    let h = p .before .before in
-    let l = h .before .before .before in
-    let s = l .before .before .before .before in
-    filled (s .args .words .now) (s .args .out .now) (l .loop .out) (l .loop .pending) (l .loop .at) (l .loop .i) (l .loop .inv) (h .hear .result) (h .hear .ensures) (h .before .before .loop-test .taken)
-    (p .put .last .1 .0) (p .put .result) (s .pre) (p .put .ensures .0) (p .put .ensures .1)
+    let p = c .before .before in
+    let m = p .before .before in
+    let t = closing m in
+    let l = at-loop t in
+    subst (λ (k : ℕ). Filled (words t) (out₀ t) (p .put .last .1 .0) (p .put .result) (k + 1)) (sym (at-is t))
+    (filled (words t) (out₀ t) (l .loop .out) (l .loop .at) (l .loop .i) (l .loop .inv) (before-end m) (m .close .result) (closed-is m)
+    (p .put .last .1 .0) (p .put .result) (l .before .before .before .pre) (p .put .ensures .0) (p .put .ensures .1))
 
 same-length : tie.Need-same-length Inv-loop μ-loop
 same-length c = c .before .loop .inv .long
@@ -60,8 +95,17 @@ same-length c = c .before .loop .inv .long
 returns : tie.Need-returns Inv-loop μ-loop
 returns c =
     let l = c .before in
-    let s = l .before .before .before .before in
-    fill-ends (s .args .words .now) (s .args .out .now) (l .loop .out) (l .loop .pending) (l .loop .at) (l .loop .i) (l .loop .inv) (c .loop-test .left)
+    let a = l .before .before .before .args in
+    fill-ends (a .words .now) (a .out .now) (l .loop .out) (l .loop .at) (l .loop .i) (l .loop .inv) (normal-past (a .words .now) (l .loop .i) (c .loop-test .left))
+
+same-length-2 : tie.Need-same-length-2 Inv-loop μ-loop
+same-length-2 c = at-loop (c .before) .loop .inv .long
+
+returns-2 : tie.Need-returns-2 Inv-loop μ-loop
+returns-2 c =
+    let t = c .before in
+    let l = at-loop t in
+    fill-ends (words t) (out₀ t) (l .loop .out) (l .loop .at) (l .loop .i) (l .loop .inv) (normal-over (words t) (l .loop .i) (omega (arith, at-is t, c .if1 .taken)))
 
 pub fill-spec : {M : Type 1} → statement M
 fill-spec =
@@ -69,14 +113,15 @@ fill-spec =
     (tie.spec
     Inv-loop
     μ-loop
-    new-requires
     loop-holds
-    mul-hear
-    shared-slice-read-hear
-    hear-requires
+    new-requires
+    to-close-requires
+    close-requires
     put-requires
     add-i
     loop-less
     loop-again
     same-length
-    returns)
+    returns
+    same-length-2
+    returns-2)

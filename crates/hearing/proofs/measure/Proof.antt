@@ -1,75 +1,115 @@
 -- `hearing::measure` meets its contract. The loop's invariant: what is counted and what is still to come are the whole.
 -- Assumes nothing.
-use mathlib.Core.Path.{_≡_, sym, subst}
-use Prim.Native.Nat.{_-_}
+use mathlib.Core.Path.{_≡_, sym, ap, _∙_, subst}
+use mathlib.Core.List.{List}
+use Prim.Native.Nat.{ℕ, _+_, _-_, _<_, _≤_}
 use native.Mathlib.Omega.{arith}
-use lib.ListN.{length}
+use lib.ListN.{length, drop}
 use Rattle.hearing.specs.declared.Pending.{Pending}
-use Rattle.hearing.proofs.Loops.{Counted, counts, counted, too-long, count-ends}
+use Rattle.hearing.specs.declared.Reached.{Reached}
+use Rattle.hearing.specs.Hearing.{none, openOf, toClose}
+use Rattle.hearing.specs.Normal.{worth}
+use Rattle.message.specs.declared.Parsed.{Parsed}
+use Rattle.message.specs.Scan.{parse}
+use Rattle.hearing.proofs.Close.{reached-in}
+use Rattle.hearing.proofs.Loops.{next, normal-over, normal-past, Counted, counts, counted, too-long, count-ends}
 use Rattle.hearing.proofs.measure.Statement.{statement}
 use Rattle.hearing.proofs.measure.Tie as tie
 
 abbrev Inv-loop : tie.InvT-loop
-Inv-loop words room pending₀ n₀ i₀ pending n i = Counted words room pending n i
+Inv-loop words room n₀ i₀ n i = Counted words room n i
 
 abbrev μ-loop : tie.MeasureT-loop
-μ-loop words room pending₀ n₀ i₀ pending n i = length words - i
+μ-loop words room n₀ i₀ n i = length words - i
+
+loop-holds : tie.Need-loop-holds Inv-loop μ-loop
+loop-holds c = let a = c .before .args in counts (a .words .now) (a .room)
 
 new-requires : tie.Need-new-requires Inv-loop μ-loop
 new-requires c κs = tt
 
-loop-holds : tie.Need-loop-holds Inv-loop μ-loop
-loop-holds c =
-    let a = c .before .before .args in
-    subst (λ (p : Pending). Counted (a .words .now) (a .room) p 0 0) (sym (c .new .ensures)) (counts (a .words .now) (a .room))
+to-close-requires : tie.Need-to-close-requires Inv-loop μ-loop
+to-close-requires c κs = tt
 
-mul-hear : tie.Need-mul-hear Inv-loop μ-loop
-mul-hear c = omega arith
-
-shared-slice-read-hear : tie.Need-shared-slice-read-hear Inv-loop μ-loop
-shared-slice-read-hear c = omega arith
-
-hear-requires : tie.Need-hear-requires Inv-loop μ-loop
-hear-requires c κs = tt
+close-requires : tie.Need-close-requires Inv-loop μ-loop
+close-requires c κs = tt
 
 count-of-requires : tie.Need-count-of-requires Inv-loop μ-loop
 count-of-requires c κs = tt
 
-sub-if1 : tie.Need-sub-if1 Inv-loop μ-loop
-sub-if1 c = omega arith
+sub-if2 : tie.Need-sub-if2 Inv-loop μ-loop
+sub-if2 c = omega arith
+
+-- where the words reach, as the code has it
+module _ (t : tie.After-to-close Inv-loop μ-loop) where
+  abbrev at-loop : tie.At-loop Inv-loop μ-loop
+  at-loop = t .before .before .before
+
+  abbrev words : List ℕ
+  words = at-loop .before .before .args .words .now
+
+  abbrev room : ℕ
+  room = at-loop .before .before .args .room
+
+  is-next : t .to-close .result ≡ next words (at-loop .loop .i)
+  is-next = t .to-close .ensures ∙ ap (λ (p : Pending). toClose p (drop (at-loop .loop .i) words) (at-loop .loop .i)) (t .before .new .ensures)
+
+  at-is : t .to-close .result .at ≡ next words (at-loop .loop .i) .at
+  at-is = ap (λ (r : Reached). r .at) is-next
+
+  -- it lies behind where the words began
+  behind : at-loop .loop .i ≤ t .to-close .result .at
+  behind = omega (arith, at-is, reached-in words none (at-loop .loop .i) (at-loop .loop .inv .i-in) .0)
+
+-- a message is closed: its length, as the code has it
+module _ (k : tie.After-count-of Inv-loop μ-loop) where
+  abbrev closing : tie.After-to-close Inv-loop μ-loop
+  closing = k .before .before .before .before
+
+  stopped : closing .to-close .result .at < length (words closing)
+  stopped = k .before .before .before .if1 .left
+
+  before-end : next (words closing) (at-loop closing .loop .i) .at < length (words closing)
+  before-end = omega (arith, at-is closing, stopped)
+
+  length-is : k .count-of .result ≡ length (worth (parse (openOf (next (words closing) (at-loop closing .loop .i) .pending))))
+  length-is = k .count-of .ensures ∙ ap (λ (o : Parsed). length (worth o)) (k .before .close .ensures ∙ ap (λ (r : Reached). parse (openOf (r .pending))) (is-next closing))
 
 returns : tie.Need-returns Inv-loop μ-loop
 returns c =
-    let h = c .before .before in
-    let l = h .before .before .before in
-    let a = l .before .before .before .args in
-    sym
-    (too-long (a .words .now) (a .room) (l .loop .pending) (l .loop .n) (l .loop .i) (l .loop .inv) (h .hear .result) (c .before .count-of .result) (h .hear .ensures)
-    (c .before .count-of .ensures) (h .before .before .loop-test .taken) (c .if1 .taken))
+    let k = c .before in
+    let t = closing k in
+    let l = at-loop t in
+    sym (too-long (words t) (room t) (l .loop .n) (l .loop .i) (l .loop .inv) (before-end k) (k .count-of .result) (length-is k) (c .if2 .taken))
 
 add-n : tie.Need-add-n Inv-loop μ-loop
 add-n c = omega arith
 
 add-i : tie.Need-add-i Inv-loop μ-loop
-add-i c = omega arith
+add-i c = omega (arith, stopped (c .before))
 
 loop-less : tie.Need-loop-less Inv-loop μ-loop
-loop-less c = omega arith
+loop-less c = omega (arith, stopped (c .before), behind (closing (c .before)))
 
 loop-again : tie.Need-loop-again Inv-loop μ-loop
 loop-again c =
-    let e = c .before in
-    let h = e .before .before in
-    let l = h .before .before .before in
-    let a = l .before .before .before .args in
-    counted (a .words .now) (a .room) (l .loop .pending) (l .loop .n) (l .loop .i) (l .loop .inv) (h .hear .result) (e .before .count-of .result) (h .hear .ensures)
-    (e .before .count-of .ensures) (h .before .before .loop-test .taken) (e .if1 .left)
+    let k = c .before in
+    let t = closing k in
+    let l = at-loop t in
+    subst (λ (m : ℕ). Counted (words t) (room t) (l .loop .n + k .count-of .result) (m + 1)) (sym (at-is t))
+    (counted (words t) (room t) (l .loop .n) (l .loop .i) (l .loop .inv) (before-end k) (k .count-of .result) (length-is k) (c .if2 .left))
 
 returns-2 : tie.Need-returns-2 Inv-loop μ-loop
 returns-2 c =
     let l = c .before in
-    let a = l .before .before .before .args in
-    sym (count-ends (a .words .now) (a .room) (l .loop .pending) (l .loop .n) (l .loop .i) (l .loop .inv) (c .loop-test .left))
+    let a = l .before .before .args in
+    sym (count-ends (a .words .now) (a .room) (l .loop .n) (l .loop .i) (l .loop .inv) (normal-past (a .words .now) (l .loop .i) (c .loop-test .left)))
+
+returns-3 : tie.Need-returns-3 Inv-loop μ-loop
+returns-3 c =
+    let t = c .before in
+    let l = at-loop t in
+    sym (count-ends (words t) (room t) (l .loop .n) (l .loop .i) (l .loop .inv) (normal-over (words t) (l .loop .i) (omega (arith, at-is t, c .if1 .taken))))
 
 pub measure-spec : {M : Type 1} → statement M
 measure-spec =
@@ -77,16 +117,16 @@ measure-spec =
     (tie.spec
     Inv-loop
     μ-loop
-    new-requires
     loop-holds
-    mul-hear
-    shared-slice-read-hear
-    hear-requires
+    new-requires
+    to-close-requires
+    close-requires
     count-of-requires
-    sub-if1
+    sub-if2
     returns
     add-n
     add-i
     loop-less
     loop-again
-    returns-2)
+    returns-2
+    returns-3)

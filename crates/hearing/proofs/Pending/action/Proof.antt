@@ -1,28 +1,15 @@
--- `hearing::Pending::action` meets its contract: the test is the definition's. Assumes nothing.
-use mathlib.Core.Path.{sym, ap, _∙_}
-use borrow.Author.Tests.{eq-eqb, ne-eqb}
-use Rattle.hearing.specs.Hearing.{opening, continuing, actionOf}
+-- `hearing::Pending::action` meets its contract: only the count of open characters matters. Assumes nothing.
+use Rattle.hearing.specs.Hearing.{actionOf}
 use borrow.Author.Needs.{needs}
 use Rattle.hearing.proofs.Pending.action.Statement.{statement}
 use Rattle.hearing.proofs.Pending.action.Tie as tie
 
-receive-requires : tie.Need-receive-requires
-receive-requires c κs = search needs
-
-opening-requires : tie.Need-opening-requires
-opening-requires c κs = search needs
-
-continuing-requires : tie.Need-continuing-requires
-continuing-requires c κs = search needs
+action-at-requires : tie.Need-action-at-requires
+action-at-requires c κs = search needs
 
 returns : tie.Need-returns
 unfolding actionOf
-returns c = c .opening .ensures ∙ ap opening (c .before .before .before .receive .ensures) ∙ sym (rw (eq-eqb _ _ (c .before .if1 .taken)))
-
-returns-2 : tie.Need-returns-2
-unfolding actionOf
-returns-2 c = c .continuing .ensures ∙ ap continuing (c .before .before .before .receive .ensures) ∙ sym (rw (ne-eqb _ _ (c .before .if1 .left)))
+returns c = c .action-at .ensures
 
 pub action-spec : {M : Type 1} → statement M
-action-spec =
-    tie.close (tie.spec receive-requires opening-requires continuing-requires returns returns-2)
+action-spec = tie.close (tie.spec action-at-requires returns)
