@@ -2,4 +2,5 @@ pub mod Rows
 pub mod Sheets
 pub mod Values
 pub mod Places
+pub mod Marks
 pub mod Cases

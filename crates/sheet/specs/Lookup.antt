@@ -1,10 +1,10 @@
 -- The row of an identifier in two sheets: its six numbers, and the part of the sheet where they stand.
 use mathlib.Core.Bool.{Bool, false, cond, _&&_}
 use mathlib.Core.List.{List, [], _∷_}
-use Prim.Native.Nat.{ℕ, _+_, _*_}
+use Prim.Native.Nat.{ℕ, suc, _+_, _*_, _-_}
 use lib.Dec.{ltb, eqb}
 use lib.IntN.{ℤ, pos, negsuc}
-use lib.ListN.{length}
+use lib.ListN.{length, set, take, drop, replicate}
 use Rattle.sheet.specs.Sheet.{at, rows, soundSheet}
 
 -- ---- in one sheet
@@ -47,6 +47,29 @@ rowOf bench maker i = cond (hasRow bench i) (rowIn bench i) (rowIn maker i)
 -- document 01: "with no row, or either sheet unsound, it shows an empty part"
 unfoldable pub shown : List ℤ → List ℤ → ℕ → List ℤ
 shown bench maker i = cond (soundSheet bench && soundSheet maker) (rowOf bench maker i) []
+
+-- ---- the same by an index: where each row starts in the two sheets, the maker's behind the bench's
+
+-- the places of a sheet's rows, from the code i on; a code that has no row keeps its place
+unfoldable pub markedFrom : List ℤ → ℕ → ℕ → List ℕ → List ℕ
+markedFrom s base i [] = []
+markedFrom s base i (x ∷ xs) = cond (hasRow s i) (base + placeIn s i) x ∷ markedFrom s base (suc i) xs
+
+unfoldable pub marked : List ℤ → ℕ → List ℕ → List ℕ
+marked s base xs = markedFrom s base 0 xs
+
+-- one row alone
+unfoldable pub markedRow : ℤ → ℕ → List ℕ → List ℕ
+markedRow (pos n) place xs = set xs n place
+markedRow (negsuc n) place xs = xs
+
+-- a row of the bench sheet before one of the maker's; behind both where there is none
+unfoldable pub indexOf : List ℤ → List ℤ → List ℕ
+indexOf bench maker = marked bench 0 (marked maker (length bench) (replicate 128 (length bench + length maker)))
+
+-- the six numbers from a place on
+unfoldable pub partAt : List ℤ → List ℤ → ℕ → List ℤ
+partAt bench maker k = cond (ltb k (length bench)) (take 6 (drop k bench)) (take 6 (drop (k - length bench) maker))
 
 -- ---- where the part lies: a block of memory and an offset in it, in bytes
 

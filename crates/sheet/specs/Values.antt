@@ -3,11 +3,11 @@ use mathlib.Core.Bool.{Bool, true, cond, not, _&&_}
 use mathlib.Core.List.{List, [], _∷_}
 use Prim.Native.Nat.{ℕ, suc}
 use lib.Dec.{eqb}
-use lib.IntN.{ℤ, natAbs}
+use lib.IntN.{ℤ, pos, natAbs}
 use lib.ListN.{length}
 use Rattle.number.specs.Number.{inRange, isMultiple}
 use Rattle.sheet.specs.Sheet.{at, soundRow}
-use Rattle.sheet.specs.Lookup.{rowOf}
+use Rattle.sheet.specs.Lookup.{rowOf, partAt}
 use Rattle.sheet.specs.declared.Row.{Row}
 use Rattle.sheet.specs.declared.Entry.{Entry}
 use Rattle.sheet.specs.declared.Entry.the-variants.{Found, Missing}
@@ -24,6 +24,16 @@ entryOf r = cond (soundRow r) (Found (numbersOf r)) Missing
 
 unfoldable pub entryIn : List ℤ → List ℤ → ℕ → Entry
 entryIn bench maker i = entryOf (rowOf bench maker i)
+
+-- the same where less is tested: six numbers, of which access and decimals are in range
+unfoldable pub wholeRow : List ℤ → Bool
+wholeRow r = eqb (length r) 6 && inRange (pos 1) (at r 1) (pos 3) && inRange (pos 0) (at r 2) (pos 3)
+
+unfoldable pub entryBy : List ℤ → Entry
+entryBy r = cond (wholeRow r) (Found (numbersOf r)) Missing
+
+unfoldable pub entryAt : List ℤ → List ℤ → ℕ → Entry
+entryAt bench maker place = entryBy (partAt bench maker place)
 
 -- document 01: access is "1 read only, 2 read and write, 3 write only"
 unfoldable pub isReadable : Row → Bool

@@ -1,9 +1,15 @@
 // Sheets of rows, the lookup of an identifier's row in two of them, and the values that the rows allow.
 // A sheet is lent as numbers, six to a row: identifier, access, decimals, step, least, greatest.
 ghost use mathlib.Core.Path.{_≡_};
+ghost use mathlib.Core.Bool.{true};
+ghost use Prim.Native.Nat.{_+_, _≤_};
+ghost use lib.ListN.{length, take, drop};
 ghost use Rattle.sheet.specs.Sheet.{soundIdentifier, soundNumbers, soundRow, soundSheet};
-ghost use Rattle.sheet.specs.Lookup.{isCode, placeIn, rowOf, shown, rowLies, shownLies};
-ghost use Rattle.sheet.specs.Values.{entryOf, entryIn, isReadable, isWritable, isReadWrite, fitsRow, fitsPlace, soundValues};
+ghost use Rattle.sheet.specs.Lookup.{isCode, placeIn, rowOf, shown, markedRow, marked, indexOf, partAt, rowLies, shownLies};
+ghost use Rattle.sheet.specs.Values.{numbersOf, wholeRow, entryOf, entryIn, entryAt, isReadable, isWritable, isReadWrite, fitsRow, fitsPlace, soundValues};
+
+// Character codes, each of which may have a row and has a value.
+pub const CODES: usize = 128;
 
 // A row by value, without its identifier.
 pub struct Row {
@@ -136,25 +142,105 @@ pub fn lookup<'a>(bench: &'a [i32], maker: &'a [i32], identifier: u8) -> &'a [i3
     &maker[end..end]
 }
 
-// A row by value, from its six numbers.
-fn entry_of(part: &[i32]) -> Entry
-    ensures { λ r. ⌜ r ≡ entryOf (now (part .entry)) ⌝ }
+// One row at the place of its identifier.
+fn mark_row(code: i32, place: usize, places: &mut [usize])
+    ensures { λ _. ⌜ now (places .exit) ≡ markedRow code place (now (places .entry)) ⌝ }
 {
-    if !sound_row(part) {
-        return Entry::Missing;
+    if code < 0 {
+        return;
     }
+    let at = code as usize;
+    if at < places.len() {
+        places[at] = place;
+    }
+}
+
+// The rows of a sheet, from the last to the first: of two with one identifier the first holds.
+fn mark(sheet: &[i32], base: usize, places: &mut [usize])
+    requires { ⌜ base + length (now sheet) ≤ 9223372036854775807 ⌝ }
+    ensures { λ _. ⌜ now (places .exit) ≡ marked (now (sheet .entry)) base (now (places .entry)) ⌝ }
+{
+    let mut k = sheet.len() - sheet.len() % 6;
+    while 6 <= k {
+        k -= 6;
+        mark_row(sheet[k], base + k, places);
+    }
+}
+
+// Where the row of each character code starts in the two sheets, the maker's behind the bench's; behind both where it has none.
+pub fn index<'a>(bench: &'a [i32], maker: &'a [i32]) -> [usize; CODES]
+    ensures { λ r. ⌜ r ≡ indexOf (now (bench .entry)) (now (maker .entry)) ⌝ }
+{
+    let end = bench.len() + maker.len();
+    let mut places = [end; CODES];
+    mark(maker, bench.len(), &mut places);
+    mark(bench, 0, &mut places);
+    places
+}
+
+// Six numbers from a place on, or those that are left.
+fn six<'a>(sheet: &'a [i32], from: usize) -> &'a [i32]
+    ensures { λ r. ⌜ now r ≡ take 6 (drop from (now (sheet .entry))) ⌝ }
+{
+    let len = sheet.len();
+    if len <= from {
+        return &sheet[len..len];
+    }
+    if len - from < 6 {
+        return &sheet[from..len];
+    }
+    let end = from + 6;
+    &sheet[from..end]
+}
+
+// The part of the two sheets that starts at a place of the index.
+fn part_at<'a>(bench: &'a [i32], maker: &'a [i32], place: usize) -> &'a [i32]
+    ensures { λ r. ⌜ now r ≡ partAt (now (bench .entry)) (now (maker .entry)) place ⌝ }
+{
+    if place < bench.len() {
+        return six(bench, place);
+    }
+    six(maker, place - bench.len())
+}
+
+// Six numbers, of which access and decimals are in range.
+fn whole_row(part: &[i32]) -> bool
+    ensures { λ r. ⌜ r ≡ wholeRow (now (part .entry)) ⌝ }
+{
+    if part.len() != 6 {
+        return false;
+    }
+    number::in_range(1, part[1], 3) & number::in_range(0, part[2], 3)
+}
+
+// A row by value, from its six numbers.
+fn numbers_of(part: &[i32]) -> Row
+    requires { ⌜ wholeRow (now part) ≡ true ⌝ }
+    ensures { λ r. ⌜ r ≡ numbersOf (now (part .entry)) ⌝ }
+{
     let access = part[1] as u8;
     let decimals = part[2] as u8;
     let step = part[3];
     let least = part[4];
     let greatest = part[5];
-    Entry::Found(Row {
+    Row {
         access,
         decimals,
         step,
         least,
         greatest,
-    })
+    }
+}
+
+// A sound row, or none.
+fn entry_of(part: &[i32]) -> Entry
+    ensures { λ r. ⌜ r ≡ entryOf (now (part .entry)) ⌝ }
+{
+    if sound_row(part) {
+        Entry::Found(numbers_of(part))
+    } else {
+        Entry::Missing
+    }
 }
 
 // The row of an identifier, by value.
@@ -163,6 +249,18 @@ pub fn find<'a>(bench: &'a [i32], maker: &'a [i32], identifier: u8) -> Entry
 {
     let part = find_row(bench, maker, identifier);
     entry_of(part)
+}
+
+// The row at a place of the index, by value. Less of it is tested than in `find`: a run has tested the sheets once.
+pub fn entry_at<'a>(bench: &'a [i32], maker: &'a [i32], place: usize) -> Entry
+    ensures { λ r. ⌜ r ≡ entryAt (now (bench .entry)) (now (maker .entry)) place ⌝ }
+{
+    let part = part_at(bench, maker, place);
+    if whole_row(part) {
+        Entry::Found(numbers_of(part))
+    } else {
+        Entry::Missing
+    }
 }
 
 pub fn is_readable(row: Row) -> bool
@@ -204,12 +302,13 @@ fn fits_place(part: &[i32], value: i32) -> bool
 pub fn sound_values<'a>(bench: &'a [i32], maker: &'a [i32], values: &[i32]) -> bool
     ensures { λ r. ⌜ r ≡ soundValues (now (bench .entry)) (now (maker .entry)) (now (values .entry)) ⌝ }
 {
-    if values.len() != 128 {
+    if values.len() != CODES {
         return false;
     }
+    let places = index(bench, maker);
     let mut i: usize = 0;
-    while i < 128 {
-        let part = find_row(bench, maker, i as u8);
+    while i < CODES {
+        let part = part_at(bench, maker, places[i]);
         if !fits_place(part, values[i]) {
             return false;
         }

@@ -1,41 +1,48 @@
 -- `sheet::sound_values` meets its contract: the values passed fit their rows, so the values are sound where those left are.
 -- Assumes nothing.
-use mathlib.Core.Path.{_≡_, refl, sym, ap₂, _∙_}
+use mathlib.Core.Path.{_≡_, refl, sym, ap, ap₂, _∙_}
 use mathlib.Core.List.{List}
 use Prim.Native.Nat.{ℕ, _-_, _≤_, _<_}
 use native.Mathlib.Omega.{arith}
 use borrow.Author.Needs.{needs}
 use borrow.Author.Tests.{not-true, not-false}
 use lib.IntN.{ℤ}
-use lib.ListN.{length, drop}
+use lib.ListN.{length, getD, drop}
 use Rattle.number.proofs.Signed.{rd-is}
 use Rattle.sheet.specs.Sheet.{at}
-use Rattle.sheet.specs.Lookup.{rowOf}
+use Rattle.sheet.specs.Lookup.{rowOf, indexOf, partAt}
 use Rattle.sheet.specs.Values.{fitsPlace, soundFrom}
+use Rattle.sheet.proofs.Marks.{index-row}
 use Rattle.sheet.proofs.Places.{from-more, from-bad, from-done, values-count, values-from}
 use Rattle.sheet.proofs.sound_values.Statement.{statement}
 use Rattle.sheet.proofs.sound_values.Tie as tie
 
 abbrev Inv-loop : tie.InvT-loop
-Inv-loop bench maker values i₀ i =
+Inv-loop bench maker values places i₀ i =
     (i ≤ 128) × (length values ≡ 128) × (soundFrom bench maker 0 values ≡ soundFrom bench maker i (drop i values))
 
 abbrev μ-loop : tie.MeasureT-loop
-μ-loop bench maker values i₀ i = 128 - i
+μ-loop bench maker values places i₀ i = 128 - i
 
 returns : tie.Need-returns Inv-loop μ-loop
 returns c =
     let a = c .before .args in
     values-count (a .bench .now) (a .maker .now) (a .values .now) (λ (e : length (a .values .now) ≡ 128). omega arith)
 
+index-requires : tie.Need-index-requires Inv-loop μ-loop
+index-requires c κs = search needs
+
 loop-holds : tie.Need-loop-holds Inv-loop μ-loop
 loop-holds c = (omega arith, omega arith, refl)
 
-cast-find-row : tie.Need-cast-find-row Inv-loop μ-loop
-cast-find-row c = omega arith
+mul-part-at : tie.Need-mul-part-at Inv-loop μ-loop
+mul-part-at c = omega arith
 
-find-row-requires : tie.Need-find-row-requires Inv-loop μ-loop
-find-row-requires c κs = search needs
+array-read-part-at : tie.Need-array-read-part-at Inv-loop μ-loop
+array-read-part-at c = omega arith
+
+part-at-requires : tie.Need-part-at-requires Inv-loop μ-loop
+part-at-requires c κs = search needs
 
 mul-fits-place : tie.Need-mul-fits-place Inv-loop μ-loop
 mul-fits-place c = omega arith
@@ -51,13 +58,13 @@ module _ (c : tie.After-fits-place Inv-loop μ-loop) where
   turn = c .before .before .before .before
 
   abbrev bench : List ℤ
-  bench = turn .before .before .args .bench .now
+  bench = turn .before .before .before .args .bench .now
 
   abbrev maker : List ℤ
-  maker = turn .before .before .args .maker .now
+  maker = turn .before .before .before .args .maker .now
 
   abbrev values : List ℤ
-  values = turn .before .before .args .values .now
+  values = turn .before .before .before .args .values .now
 
   abbrev i : ℕ
   i = turn .loop .i
@@ -66,10 +73,16 @@ module _ (c : tie.After-fits-place Inv-loop μ-loop) where
   left : i < length values
   left = omega arith
 
+  part-is : c .before .before .part-at .result .now ≡ rowOf bench maker i
+  part-is =
+      c .before .before .part-at .ensures
+      ∙ ap (λ (l : List ℕ). partAt bench maker (getD l i 0)) (turn .before .index .ensures)
+      ∙ index-row bench maker i (omega arith)
+
   was : fitsPlace (rowOf bench maker i) (at values i) ≡ c .fits-place .result
   was =
       sym (c .fits-place .ensures
-      ∙ ap₂ fitsPlace (c .before .before .find-row .ensures .0) (rd-is {z = at values i} (record { sfits = c .before .fits-place-arg .given })))
+      ∙ ap₂ fitsPlace part-is (rd-is {z = at values i} (record { sfits = c .before .fits-place-arg .given })))
 
 returns-2 : tie.Need-returns-2 Inv-loop μ-loop
 returns-2 c =
@@ -95,7 +108,7 @@ loop-again c =
 returns-3 : tie.Need-returns-3 Inv-loop μ-loop
 returns-3 c =
     let l = c .before in
-    let a = l .before .before .args in
+    let a = l .before .before .before .args in
     from-done (a .bench .now) (a .maker .now) (a .values .now) (l .loop .i) (omega arith)
     ∙ sym (l .loop .inv .2)
     ∙ values-from (a .bench .now) (a .maker .now) (a .values .now) (l .loop .inv .1)
@@ -107,9 +120,11 @@ sound-values-spec =
     Inv-loop
     μ-loop
     returns
+    index-requires
     loop-holds
-    cast-find-row
-    find-row-requires
+    mul-part-at
+    array-read-part-at
+    part-at-requires
     mul-fits-place
     shared-slice-copy-out-fits-place
     fits-place-requires

@@ -1,0 +1,41 @@
+-- `sheet::index` meets its contract: the maker's rows are marked first, and the bench's over them. Assumes nothing.
+use mathlib.Core.Path.{ap, _∙_}
+use mathlib.Core.List.{List}
+use Prim.Native.Nat.{ℕ}
+use borrow.Author.Needs.{needs}
+use Rattle.sheet.specs.Lookup.{marked, indexOf}
+use Rattle.sheet.proofs.index.Statement.{statement}
+use Rattle.sheet.proofs.index.Tie as tie
+
+add-end : tie.Need-add-end
+add-end c = search needs
+
+slice-aggregate-mark : tie.Need-slice-aggregate-mark
+slice-aggregate-mark c = search needs
+
+mark-requires : tie.Need-mark-requires
+mark-requires c κs = search needs
+
+slice-aggregate-mark-2 : tie.Need-slice-aggregate-mark-2
+slice-aggregate-mark-2 c = search needs
+
+mark-requires-2 : tie.Need-mark-requires-2
+mark-requires-2 c κs = search needs
+
+returns : tie.Need-returns
+unfolding indexOf
+returns c =
+    let k = c .before in
+    let a = k .before .before .before .before .before .args in
+    k .mark2 .ensures ∙ ap (marked (a .bench .now) 0) (k .before .before .before .mark .ensures)
+
+pub index-spec : {M : Type 1} → statement M
+index-spec =
+    tie.close
+    (tie.spec
+    add-end
+    slice-aggregate-mark
+    mark-requires
+    slice-aggregate-mark-2
+    mark-requires-2
+    returns)

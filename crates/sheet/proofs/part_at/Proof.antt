@@ -1,0 +1,27 @@
+-- `sheet::part_at` meets its contract: the test is the definition's. Assumes nothing.
+use mathlib.Core.Path.{refl, sym, _∙_}
+use borrow.Author.Needs.{needs}
+use borrow.Author.Tests.{lt-ltb, le-ltb}
+use Rattle.sheet.specs.Lookup.{partAt}
+use Rattle.sheet.proofs.part_at.Statement.{statement}
+use Rattle.sheet.proofs.part_at.Tie as tie
+
+six-requires : tie.Need-six-requires
+six-requires c κs = search needs
+
+returns : tie.Need-returns
+unfolding partAt
+returns c = c .six .ensures ∙ sym (rw (lt-ltb _ _ (c .before .if1 .taken)) refl)
+
+sub-six : tie.Need-sub-six
+sub-six c = search needs
+
+six-requires-2 : tie.Need-six-requires-2
+six-requires-2 c κs = search needs
+
+returns-2 : tie.Need-returns-2
+unfolding partAt
+returns-2 c = c .six2 .ensures ∙ sym (rw (le-ltb _ _ (c .before .if1 .left)) refl)
+
+pub part-at-spec : {M : Type 1} → statement M
+part-at-spec = tie.close (tie.spec six-requires returns sub-six six-requires-2 returns-2)

@@ -1,0 +1,93 @@
+-- `sheet::six` meets its contract: each return by the test that led there. Assumes nothing.
+use mathlib.Core.Path.{_≡_, sym, ap, _∙_}
+use Prim.Native.Nat.{ℕ, _+_, _-_}
+use native.Mathlib.Omega.{arith}
+use borrow.Author.Needs.{needs}
+use lib.ListN.{length, take, drop, length-drop, drop-of-length-le}
+use lib.Seq.{take-all}
+use Rattle.sheet.proofs.six.Statement.{statement}
+use Rattle.sheet.proofs.six.Tie as tie
+
+mul-result : tie.Need-mul-result
+mul-result c = search needs
+
+sub-result : tie.Need-sub-result
+sub-result c = search needs
+
+part-result-start : tie.Need-part-result-start
+part-result-start c = search needs
+
+part-result-end : tie.Need-part-result-end
+part-result-end c = search needs
+
+returns : tie.Need-returns
+returns c =
+    let a = c .before .before .args in
+    let s = a .sheet .now in
+    let e : length s - length s ≡ 0 = omega arith in
+    ap (λ (n : ℕ). take n (drop (length s) s)) e ∙ sym (ap (take 6) (drop-of-length-le s (c .before .if1 .taken)))
+
+sub-if2 : tie.Need-sub-if2
+sub-if2 c = search needs
+
+mul-result-2 : tie.Need-mul-result-2
+mul-result-2 c = search needs
+
+sub-result-2 : tie.Need-sub-result-2
+sub-result-2 c = search needs
+
+part-result-start-2 : tie.Need-part-result-start-2
+part-result-start-2 c = search needs
+
+part-result-end-2 : tie.Need-part-result-end-2
+part-result-end-2 c = search needs
+
+returns-2 : tie.Need-returns-2
+returns-2 c =
+    let a = c .before .before .before .args in
+    let s = a .sheet .now in
+    let n = length-drop (a .from) s in
+    take-all (length s - a .from) (drop (a .from) s) (omega arith) ∙ sym (take-all 6 (drop (a .from) s) (omega arith))
+
+add-end : tie.Need-add-end
+add-end c = search needs
+
+mul-result-3 : tie.Need-mul-result-3
+mul-result-3 c = search needs
+
+sub-result-3 : tie.Need-sub-result-3
+sub-result-3 c = search needs
+
+part-result-start-3 : tie.Need-part-result-start-3
+part-result-start-3 c = search needs
+
+part-result-end-3 : tie.Need-part-result-end-3
+part-result-end-3 c = search needs
+
+returns-3 : tie.Need-returns-3
+returns-3 c =
+    let a = c .before .before .before .args in
+    let e : (a .from + 6) - a .from ≡ 6 = omega arith in
+    ap (λ (n : ℕ). take n (drop (a .from) (a .sheet .now))) e
+
+pub six-spec : {M : Type 1} → statement M
+six-spec =
+    tie.close
+    (tie.spec
+    mul-result
+    sub-result
+    part-result-start
+    part-result-end
+    returns
+    sub-if2
+    mul-result-2
+    sub-result-2
+    part-result-start-2
+    part-result-end-2
+    returns-2
+    add-end
+    mul-result-3
+    sub-result-3
+    part-result-start-3
+    part-result-end-3
+    returns-3)
