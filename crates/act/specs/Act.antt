@@ -95,9 +95,12 @@ serve m e o v body.Down = down m e v
 serve m e o v (body.Set n d) = set m e v n d
 serve m e o v body.Store = store m e o
 
--- "A heard message with another letter or address: silence, offer gone."
+-- "A heard message with another letter or address: silence, offer gone." The entry is that of its identifier, and the value what is
+-- stored at its place.
+unfoldable pub respond : ℕ → ℕ → Offer → Entry → ℤ → Message → Effect
+respond letter address offer e v m =
+    cond (eqb (m .letter) letter && eqb (m .address) address) (serve m e offer v (m .body)) silent
+
 unfoldable pub act : List ℤ → List ℤ → ℕ → ℕ → Offer → List ℤ → Message → Effect
 act bench maker letter address offer values m =
-    cond (eqb (m .letter) letter && eqb (m .address) address)
-    (serve m (entryIn bench maker (m .identifier)) offer (getD values (m .identifier) (pos 0)) (m .body))
-    silent
+    respond letter address offer (entryIn bench maker (m .identifier)) (getD values (m .identifier) (pos 0)) m

@@ -2,7 +2,8 @@
 ghost use mathlib.Core.Path.{_≡_};
 ghost use lib.IntN.{pos};
 ghost use lib.ListN.{getD};
-ghost use Rattle.act.specs.Act.{silent, answerTo, says, puts, shownBy, declines, query, moves, up, down, offers, set, decimalsOf, store, serve, act};
+ghost use Rattle.sheet.specs.Values.{entryAt};
+ghost use Rattle.act.specs.Act.{silent, answerTo, says, puts, shownBy, declines, query, moves, up, down, offers, set, decimalsOf, store, serve, respond};
 use message::Body;
 use message::Message;
 use reply::Answer;
@@ -247,21 +248,22 @@ fn value_at(values: &[i32], place: u8) -> i32
     if at < values.len() { values[at] } else { 0 }
 }
 
-// What a heard message leads to, at a card with this letter, address and offer.
+// What a heard message leads to, at a card with this letter, address and offer. `places` is an index of the two sheets.
 pub fn act<'a>(
     letter: u8,
     address: u8,
     offer: Offer,
     bench: &'a [i32],
     maker: &'a [i32],
+    places: &[usize],
     values: &[i32],
     message: Message,
 ) -> Effect
-    ensures { λ r. ⌜ r ≡ act (now (bench .entry)) (now (maker .entry)) letter address offer (now (values .entry)) message ⌝ }
+    ensures { λ r. ⌜ r ≡ respond letter address offer (entryAt (now (bench .entry)) (now (maker .entry)) (now (places .entry)) (message .identifier)) (getD (now (values .entry)) (message .identifier) (pos 0)) message ⌝ }
 {
     if (message.letter == letter) & (message.address == address) {
         let identifier = message.identifier;
-        let entry = sheet::find(bench, maker, identifier);
+        let entry = sheet::find_at(bench, maker, places, identifier);
         let value = value_at(values, identifier);
         let body = message.body;
         serve(message, entry, offer, value, body)

@@ -1,4 +1,4 @@
--- What the loop of a run carries from word to word, in tail style: what is played from here on, behind what is written, is what is
+-- What the loop of a run carries from message to message, in tail style: what is played from here on, behind what is written, is what is
 -- played from the start. Assumes nothing.
 use mathlib.Core.Path.{_≡_, refl, sym, ap, subst, _∙_}
 use mathlib.Core.Bool.{Bool, true, false, cond}
@@ -14,14 +14,20 @@ use lib.Seq.{paste, length-paste, take-paste, drop-paste, drop-cons, drop-drop, 
 use Rattle.refusal.specs.Refusal.{gave}
 use Rattle.refusal.specs.Call.{laid}
 use Rattle.wire.specs.declared.Line.{Line}
-use Rattle.wire.specs.Line.{bytesOf, fitsAt, placed}
+use Rattle.wire.specs.Line.{empty, bytesOf, fitsAt, placed}
 use Rattle.wire.proofs.Lines.{placed-paste}
+use Rattle.message.specs.declared.Parsed.the-variants.{Unheard}
+use Rattle.hearing.specs.declared.Pending.{Pending}
+use Rattle.hearing.specs.declared.Reached.{Reached}
+use Rattle.hearing.specs.Hearing.{hear, toClose}
+use Rattle.hearing.proofs.Close.{reached, reached-in}
 use Rattle.card.specs.declared.Card.{Card}
 use Rattle.card.specs.declared.Turn.{Turn}
 use Rattle.card.specs.declared.Ran.{Ran}
 use Rattle.card.specs.declared.Taken.the-variants as taken
-use Rattle.card.specs.Turn.{turn, stored, Played, stopped, after, play}
+use Rattle.card.specs.Turn.{withBoth, turn, stored, Played, stopped, after, play}
 use Rattle.card.specs.Calls.{Ends}
+use Rattle.card.proofs.Turns.{turn-unheard}
 
 -- the words already taken, n of them, were answered with these bytes
 abbrev pub onward : List ℕ → ℕ → Played → Played
@@ -36,28 +42,60 @@ regroup x b y i p e =
     let l : x ++ (b ++ p .bytes) ≡ y ++ p .bytes = sym (append-assoc x b (p .bytes)) ∙ ap (λ (m : List ℕ). m ++ p .bytes) (sym e) in
     λ j. record { card = p .card; values = p .values; bytes = l j; taken = t j }
 
-pub record Carried (bench maker : List ℤ) (c₀ : Card) (v₀ : List ℤ) (out₀ ws : List ℕ) (c : Card) (v : List ℤ) (out : List ℕ) (at i : ℕ) : Type 0 where
+pub record Carried (bench maker : List ℤ) (total : Played) (v₀ : List ℤ) (out₀ ws : List ℕ) (c : Card) (v : List ℤ) (out : List ℕ) (at i : ℕ) : Type 0 where
   pub i-in : i ≤ length ws
   pub at-in : at ≤ length out₀
   pub out-long : length out ≡ length out₀
   pub values-long : length v ≡ length v₀
   pub behind : drop at out ≡ drop at out₀
-  pub whole : play bench maker c₀ v₀ (length out₀) ws ≡ onward (take at out) i (play bench maker c v (length out₀ - at) (drop i ws))
+  pub whole : total ≡ onward (take at out) i (play bench maker c v (length out₀ - at) (drop i ws))
 
-module _ (bench maker : List ℤ) (c₀ : Card) (v₀ : List ℤ) (out₀ ws : List ℕ) where
-  pub starts : Carried bench maker c₀ v₀ out₀ ws c₀ v₀ out₀ 0 0
-  starts = record {
-    i-in = omega arith;
+-- ---- words that close no heard message
+
+module _ (bench maker : List ℤ) (v : List ℤ) (room : ℕ) (ws : List ℕ) where
+  -- one of them
+  unheard : (c : Card) (x : List ℕ) (i : ℕ) → i < length ws → hear (c .pending) (getD ws i 0) .message ≡ Unheard
+      → onward x i (play bench maker c v room (drop i ws)) ≡ onward x (i + 1) (play bench maker (withBoth c (hear (c .pending) (getD ws i 0) .pending) (c .offer)) v room (drop (i + 1) ws))
+  unfolding play bytesOf empty stored
+  unheard c x i h u =
+      let w = getD ws i 0 in
+      let d : Card = withBoth c (hear (c .pending) w .pending) (c .offer) in
+      let z : room - 0 ≡ room = omega arith in
+      let e : play bench maker c v room (drop i ws) ≡ after [] (play bench maker d v room (drop (i + 1) ws))
+      = rw (drop-cons ws i 0 h) (rw (turn-unheard bench maker c v w u, le-leb 0 room (omega arith), z, add-one i) refl) in
+      ap (onward x i) e ∙ regroup x [] x i (play bench maker d v room (drop (i + 1) ws)) (sym (append-nil x))
+
+  -- all of them, up to a word that closes a message
+  pub play-reached : (c : Card) (x : List ℕ) (i : ℕ)
+      → onward x i (play bench maker c v room (drop i ws))
+      ≡ onward x (toClose (c .pending) (drop i ws) i .at) (play bench maker (withBoth c (toClose (c .pending) (drop i ws) i .pending) (c .offer)) v room (drop (toClose (c .pending) (drop i ws) i .at) ws))
+  play-reached c x i =
+      reached ws (λ (q : Pending) (k : ℕ). onward x i (play bench maker c v room (drop i ws)) ≡ onward x k (play bench maker (withBoth c q (c .offer)) v room (drop k ws)))
+      (λ q k l u g. g ∙ unheard (withBoth c q (c .offer)) x k l u) (c .pending) i refl
+
+-- ---- what the loop carries
+
+-- the run from its start, as what is played from the first word that closes a message on
+pub starts : (bench maker : List ℤ) (c : Card) (v : List ℤ) (out ws : List ℕ) (r : Reached) → r ≡ toClose (c .pending) ws 0
+    → play bench maker c v (length out) ws ≡ onward [] (r .at) (play bench maker (withBoth c (r .pending) (c .offer)) v (length out) (drop (r .at) ws))
+starts bench maker c v out ws r e =
+    nothing-yet (play bench maker c v (length out) ws) ∙ play-reached bench maker v (length out) ws c [] 0
+    ∙ ap (λ (x : Reached). onward [] (x .at) (play bench maker (withBoth c (x .pending) (c .offer)) v (length out) (drop (x .at) ws))) (sym e)
+
+module _ (bench maker : List ℤ) (total : Played) (v₀ : List ℤ) (out₀ ws : List ℕ) where
+  pub begins : (c : Card) (i : ℕ) → i ≤ length ws → total ≡ onward [] i (play bench maker c v₀ (length out₀) (drop i ws)) → Carried bench maker total v₀ out₀ ws c v₀ out₀ 0 i
+  begins c i h e = record {
+    i-in = h;
     at-in = omega arith;
     out-long = refl;
     values-long = refl;
     behind = refl;
     whole =
-        let e : length out₀ ≡ length out₀ - 0 = omega arith in
-        nothing-yet (play bench maker c₀ v₀ (length out₀) ws) ∙ ap (λ (r : ℕ). onward [] 0 (play bench maker c₀ v₀ r ws)) e;
+        let z : length out₀ ≡ length out₀ - 0 = omega arith in
+        e ∙ ap (λ (r : ℕ). onward [] i (play bench maker c v₀ r (drop i ws))) z;
   }
 
-  module _ (c : Card) (v : List ℤ) (out : List ℕ) (at i : ℕ) (k : Carried bench maker c₀ v₀ out₀ ws c v out at i) where
+  module _ (c : Card) (v : List ℤ) (out : List ℕ) (at i : ℕ) (k : Carried bench maker total v₀ out₀ ws c v out at i) where
     -- the next word's turn
     abbrev next : Turn
     next = turn bench maker c v (getD ws i 0)
@@ -76,7 +114,7 @@ module _ (bench maker : List ℤ) (c₀ : Card) (v₀ : List ℤ) (out₀ ws : L
     ends h = rw (drop-of-length-le ws h)
 
     taken-turn : i < length ws → length (bytesOf (next .reply)) ≤ length out₀ - at → length (stored v (next .store)) ≡ length v
-        → Carried bench maker c₀ v₀ out₀ ws (next .card) (stored v (next .store)) (placed (bytesOf (next .reply)) at out) (at + length (bytesOf (next .reply))) (i + 1)
+        → Carried bench maker total v₀ out₀ ws (next .card) (stored v (next .store)) (placed (bytesOf (next .reply)) at out) (at + length (bytesOf (next .reply))) (i + 1)
     taken-turn h r l =
         let b : List ℕ = bytesOf (next .reply) in
         let n : ℕ = length b in
@@ -112,16 +150,16 @@ module _ (bench maker : List ℤ) (c₀ : Card) (v₀ : List ℤ) (out₀ ws : L
           omega (arith, leb-true (at + length xs) (length out) f)
 
       pub turned : (v′ : List ℤ) (out′ : List ℕ) → fitsAt xs at out ≡ true → v′ ≡ stored v (t .store) → length v′ ≡ length v → out′ ≡ placed xs at out
-          → Carried bench maker c₀ v₀ out₀ ws (t .card) v′ out′ (at + n) (i + 1)
+          → Carried bench maker total v₀ out₀ ws (t .card) v′ out′ (at + n) (i + 1)
       turned v′ out′ f ev lv eo =
           let q : xs ≡ bytesOf (next .reply) = ex ∙ ap (λ (x : Turn). bytesOf (x .reply)) e in
           let m : length (bytesOf (next .reply)) ≡ n = sym (en ∙ ap (λ (x : Turn). length (bytesOf (x .reply))) e) in
           let w : v′ ≡ stored v (next .store) = ev ∙ ap (λ (x : Turn). stored v (x .store)) e in
           let o : out′ ≡ placed (bytesOf (next .reply)) at out = eo ∙ ap (λ (l : List ℕ). placed l at out) q in
-          subst (λ (x : Card). Carried bench maker c₀ v₀ out₀ ws x v′ out′ (at + n) (i + 1)) (sym (ap (λ (x : Turn). x .card) e))
-          (subst (λ (x : ℕ). Carried bench maker c₀ v₀ out₀ ws (next .card) v′ out′ (at + x) (i + 1)) m
-          (subst (λ (x : List ℤ). Carried bench maker c₀ v₀ out₀ ws (next .card) x out′ (at + length (bytesOf (next .reply))) (i + 1)) (sym w)
-          (subst (λ (x : List ℕ). Carried bench maker c₀ v₀ out₀ ws (next .card) (stored v (next .store)) x (at + length (bytesOf (next .reply))) (i + 1)) (sym o)
+          subst (λ (x : Card). Carried bench maker total v₀ out₀ ws x v′ out′ (at + n) (i + 1)) (sym (ap (λ (x : Turn). x .card) e))
+          (subst (λ (x : ℕ). Carried bench maker total v₀ out₀ ws (next .card) v′ out′ (at + x) (i + 1)) m
+          (subst (λ (x : List ℤ). Carried bench maker total v₀ out₀ ws (next .card) x out′ (at + length (bytesOf (next .reply))) (i + 1)) (sym w)
+          (subst (λ (x : List ℕ). Carried bench maker total v₀ out₀ ws (next .card) (stored v (next .store)) x (at + length (bytesOf (next .reply))) (i + 1)) (sym o)
           (taken-turn h (fits-is f) (ap length (sym w) ∙ lv)))))
 
       -- no room for the next word's reply
@@ -132,11 +170,24 @@ module _ (bench maker : List ℤ) (c₀ : Card) (v₀ : List ℤ) (out₀ ws : L
           let long = k .out-long in
           stays h (omega (arith, leb-false (at + length xs) (length out) f))
 
+    -- up to the next word that closes a message
+    pub carried-reached : (r : Reached) → r ≡ toClose (c .pending) (drop i ws) i → Carried bench maker total v₀ out₀ ws (withBoth c (r .pending) (c .offer)) v out at (r .at)
+    carried-reached r e =
+        subst (λ (x : Reached). Carried bench maker total v₀ out₀ ws (withBoth c (x .pending) (c .offer)) v out at (x .at)) (sym e)
+        (record {
+          i-in = reached-in ws (c .pending) i (k .i-in) .1;
+          at-in = k .at-in;
+          out-long = k .out-long;
+          values-long = k .values-long;
+          behind = k .behind;
+          whole = k .whole ∙ play-reached bench maker v (length out₀ - at) ws c (take at out) i;
+        })
+
     -- the run ends here: nothing more is taken
-    pub over : play bench maker c v (length out₀ - at) (drop i ws) ≡ stopped c v → Ends (play bench maker c₀ v₀ (length out₀) ws) out₀ (record { card = c; answer = taken.Took i at }) v out
+    pub over : play bench maker c v (length out₀ - at) (drop i ws) ≡ stopped c v → Ends total out₀ (record { card = c; answer = taken.Took i at }) v out
     unfolding laid
     over e =
-        let w : play bench maker c₀ v₀ (length out₀) ws ≡ onward (take at out) i (stopped c v) = k .whole ∙ ap (onward (take at out) i) e in
+        let w : total ≡ onward (take at out) i (stopped c v) = k .whole ∙ ap (onward (take at out) i) e in
         let long = k .out-long in
         let at-in = k .at-in in
         let n : length (take at out ++ []) ≡ at = ap length (append-nil (take at out)) ∙ length-take-le at out (omega arith) in

@@ -3,11 +3,13 @@ use mathlib.Core.Path.{_≡_, refl, sym, ap, _∙_}
 use mathlib.Core.Bool.{Bool, true, false, not, _&&_}
 use mathlib.Core.List.{List, [], _∷_}
 use Prim.Native.Nat.{ℕ, _<_, _≤_}
+use native.Mathlib.Omega.{arith}
 use borrow.Author.Tests.{lt-ltb, le-ltb}
 use lib.IntN.{ℤ}
 use lib.ListN.{length}
 use Rattle.refusal.specs.declared.Refusal.{Refusal}
 use Rattle.refusal.specs.declared.Refusal.the-variants.{UnsoundCard, UnsoundSheet, UnsoundValues, WordAbove256, RoomTooShort}
+use Rattle.refusal.proofs.Logic.{and-left, and-right, by-test}
 use Rattle.wire.specs.Word.{validWords}
 use Rattle.wire.specs.Line.{longest}
 use Rattle.sheet.specs.Sheet.{soundSheet}
@@ -21,6 +23,9 @@ use Rattle.card.specs.Sound.{soundCard, soundOffer, verdictOf}
 use Rattle.card.specs.Calls.{Step, stepRefused, stepTaken, stepBy, stepCall, Run, runBy, runCall}
 
 -- ---- the verdict
+
+refused-sound : {r : Refusal} → Refused r ≡ Sound → ⊥
+refused-sound e = let n : _≡_ {A = ℕ} 0 1 = cc in omega arith
 
 module _ (c : Card) (bench maker values : List ℤ) (ws : List ℕ) where
   pub card-unsound : soundCard c ≡ false → verdictOf c bench maker values ws ≡ Refused UnsoundCard
@@ -50,6 +55,15 @@ module _ (c : Card) (bench maker values : List ℤ) (ws : List ℕ) where
           pub all-sound : validWords ws ≡ true → verdictOf c bench maker values ws ≡ Sound
           unfolding verdictOf
           all-sound e = rw (p, q, r, s, e)
+
+  -- a call that passed has sound sheets
+  pub sheets-sound : verdictOf c bench maker values ws ≡ Sound → (soundSheet bench ≡ true) × (soundSheet maker ≡ true)
+  sheets-sound e =
+      by-test (soundCard c)
+      (λ p. by-test (soundSheet bench && soundSheet maker)
+      (λ q. (and-left (soundSheet bench) (soundSheet maker) q, and-right (soundSheet bench) (soundSheet maker) q))
+      (λ q. absurd (refused-sound (sym (sheet-unsound p q) ∙ e))))
+      (λ p. absurd (refused-sound (sym (card-unsound p) ∙ e)))
 
 -- ---- the calls
 

@@ -3,11 +3,17 @@ use mathlib.Core.Path.{_≡_, refl, sym, ap, _∙_, subst}
 use mathlib.Core.List.{List}
 use Prim.Native.Nat.{ℕ, _≤_}
 use lib.Dec.{lit≤}
-use lib.IntN.{ℤ}
-use lib.ListN.{length}
+use mathlib.Core.Bool.{true}
+use lib.IntN.{ℤ, pos}
+use lib.ListN.{length, getD}
 use Rattle.wire.specs.Line.{longest, empty, bytesOf}
 use Rattle.wire.proofs.Words.{travelling-length}
 use Rattle.wire.proofs.Lines.{line-bytes}
+use Rattle.sheet.specs.declared.Entry.{Entry}
+use Rattle.sheet.specs.Sheet.{soundSheet}
+use Rattle.sheet.specs.Lookup.{indexOf}
+use Rattle.sheet.specs.Values.{entryAt}
+use Rattle.sheet.proofs.Marks.{index-entry}
 use Rattle.reply.specs.Reply.{spellAnswer}
 use Rattle.reply.proofs.Spelled.{answer-length}
 use Rattle.message.specs.declared.Parsed.{Parsed}
@@ -22,7 +28,8 @@ use Rattle.hearing.specs.Hearing.{none, added, openOf, actionOf, perform, hear}
 use Rattle.act.specs.declared.Said.{Said}
 use Rattle.act.specs.declared.Said.the-variants.{Silence, Reply}
 use Rattle.act.specs.declared.Effect.{Effect}
-use Rattle.act.specs.Act.{act}
+use Rattle.act.specs.declared.Store.the-variants.{Keep}
+use Rattle.act.specs.Act.{respond, act}
 use Rattle.card.specs.declared.Card.{Card}
 use Rattle.card.specs.declared.Turn.{Turn}
 use Rattle.card.specs.Turn.{replyOf, effectOf, withBoth, turned, stays, turn}
@@ -39,13 +46,33 @@ module _ (bench maker : List ℤ) (c : Card) (values : List ℤ) where
   turn-length w = reply-length (effectOf bench maker c values (hear (c .pending) w .message) .said)
 
   -- what was closed
-  pub closed-unheard : turned c none (effectOf bench maker c values Unheard) ≡ stays (withBoth c none (c .offer))
-  unfolding turned effectOf
-  closed-unheard = refl
-
-  pub closed-heard : (m : Message) → turned c none (effectOf bench maker c values (Heard m)) ≡ turned c none (act bench maker (c .letter) (c .address) (c .offer) values m)
+  pub effect-unheard : record { said = Silence; offer = c .offer; store = Keep } ≡ effectOf bench maker c values Unheard
   unfolding effectOf
-  closed-heard m = refl
+  effect-unheard = refl
+
+  -- under sound sheets the index gives the entry
+  pub effect-heard : (places : List ℕ) (m : Message) → soundSheet bench ≡ true → soundSheet maker ≡ true → places ≡ indexOf bench maker
+      → respond (c .letter) (c .address) (c .offer) (entryAt bench maker places (m .identifier)) (getD values (m .identifier) (pos 0)) m ≡ effectOf bench maker c values (Heard m)
+  unfolding effectOf act
+  effect-heard places m b k e =
+      ap (λ (x : Entry). respond (c .letter) (c .address) (c .offer) x (getD values (m .identifier) (pos 0)) m)
+      (ap (λ (l : List ℕ). entryAt bench maker l (m .identifier)) e ∙ index-entry bench maker (m .identifier) b k)
+
+  -- the open message is not looked at
+  pub effect-open : (o : Parsed) → effectOf bench maker (withBoth c none (c .offer)) values o ≡ effectOf bench maker c values o
+  unfolding effectOf
+  effect-open (Heard m) = refl
+  effect-open Unheard = refl
+
+  -- a word that closes no heard message
+  pub turn-unheard : (w : ℕ) → hear (c .pending) w .message ≡ Unheard → turn bench maker c values w ≡ stays (withBoth c (hear (c .pending) w .pending) (c .offer))
+  unfolding turn turned effectOf
+  turn-unheard w e = ap (λ (o : Parsed). turned c (hear (c .pending) w .pending) (effectOf bench maker c values o)) e
+
+  -- a word that closes one
+  pub turn-closes : (w : ℕ) (o : Parsed) → hear (c .pending) w ≡ record { pending = none; message = o } → turn bench maker c values w ≡ turned c none (effectOf bench maker c values o)
+  unfolding turn
+  turn-closes w o e = ap (λ (h : Hearing). turned c (h .pending) (effectOf bench maker c values (h .message))) e
 
   module _ (w : ℕ) where
     did : (a : Action) → actionOf (c .pending) w ≡ a → turn bench maker c values w ≡ turned c (perform (c .pending) a .pending) (effectOf bench maker c values (perform (c .pending) a .message))

@@ -5,6 +5,8 @@ ghost use lib.IntN.{pos};
 ghost use lib.ListN.{length, getD};
 ghost use mathlib.Core.Bool.{true};
 ghost use Rattle.wire.specs.Line.{bytesOf};
+ghost use Rattle.sheet.specs.Sheet.{soundSheet};
+ghost use Rattle.sheet.specs.Lookup.{indexOf};
 ghost use Rattle.hearing.specs.Hearing.{none, added};
 ghost use Rattle.card.specs.Turn.{replyOf, effectOf, withBoth, turned, stays, turn, stored, play};
 ghost use Rattle.card.specs.Sound.{soundCard, offerable, soundOffer, verdictOf};
@@ -16,6 +18,7 @@ use act::Said;
 use act::Store;
 use hearing::Action;
 use hearing::Pending;
+use hearing::Reached;
 use message::Parsed;
 use refusal::Refusal;
 use refusal::Written;
@@ -154,6 +157,37 @@ fn quiet(card: Card) -> Turn
     Turn { card, reply, store }
 }
 
+// What a closed message leads to, at a card with this letter, address and offer. `places` is the index of the two sheets.
+fn effect_of<'a>(
+    letter: u8,
+    address: u8,
+    offer: Offer,
+    bench: &'a [i32],
+    maker: &'a [i32],
+    places: &[usize],
+    values: &[i32],
+    parsed: Parsed,
+) -> Effect
+    requires { ⌜ (soundSheet (now bench) ≡ true) × (soundSheet (now maker) ≡ true) × (now places ≡ indexOf (now bench) (now maker)) ⌝ }
+    ensures { λ r. ⌜ r ≡ effectOf (now (bench .entry)) (now (maker .entry)) (record { letter = letter; address = address; pending = none; offer = offer }) (now (values .entry)) parsed ⌝ }
+{
+    let Parsed::Heard(message) = parsed else {
+        let said = Said::Silence;
+        let store = Store::Keep;
+        return Effect { said, offer, store };
+    };
+    act::act(
+        letter,
+        address,
+        offer,
+        bench,
+        maker,
+        places,
+        values,
+        message,
+    )
+}
+
 // A message was closed.
 fn closed<'a>(
     card: Card,
@@ -162,20 +196,20 @@ fn closed<'a>(
     values: &[i32],
     parsed: Parsed,
 ) -> Turn
+    requires { ⌜ (soundSheet (now bench) ≡ true) × (soundSheet (now maker) ≡ true) ⌝ }
     ensures { λ r. ⌜ r ≡ turned card none (effectOf (now (bench .entry)) (now (maker .entry)) card (now (values .entry)) parsed) ⌝ }
 {
-    let Parsed::Heard(message) = parsed else {
-        return quiet(card.close());
-    };
+    let places = sheet::index(bench, maker);
     let held = card.offer;
-    let effect = act::act(
+    let effect = effect_of(
         card.letter,
         card.address,
         held,
         bench,
         maker,
+        &places,
         values,
-        message,
+        parsed,
     );
     let said = effect.said;
     let reply = reply_of(said);
@@ -187,6 +221,7 @@ fn closed<'a>(
 
 // What a word leads to. Nothing is written yet.
 fn decide<'a>(card: Card, bench: &'a [i32], maker: &'a [i32], values: &[i32], word: u16) -> Turn
+    requires { ⌜ (soundSheet (now bench) ≡ true) × (soundSheet (now maker) ≡ true) ⌝ }
     ensures { λ r. ⌜ r ≡ turn (now (bench .entry)) (now (maker .entry)) card (now (values .entry)) word ⌝ }
 {
     let pending = card.pending;
@@ -272,6 +307,7 @@ fn take<'a>(
     word: u16,
     out: &mut [u8],
 ) -> Stepped
+    requires { ⌜ (soundSheet (now bench) ≡ true) × (soundSheet (now maker) ≡ true) ⌝ }
     ensures { λ r. ⌜ (r .card ≡ stepBy Verdict.Sound (turn (now (bench .entry)) (now (maker .entry)) card (now (values .entry)) word) card (now (values .entry)) (now (out .entry)) .card)
         × (writtenOf (r .answer) ≡ stepBy Verdict.Sound (turn (now (bench .entry)) (now (maker .entry)) card (now (values .entry)) word) card (now (values .entry)) (now (out .entry)) .outcome)
         × (now (values .exit) ≡ stepBy Verdict.Sound (turn (now (bench .entry)) (now (maker .entry)) card (now (values .entry)) word) card (now (values .entry)) (now (out .entry)) .values)
@@ -334,7 +370,26 @@ pub fn receive<'a>(
     stepped.answer
 }
 
-// The run of a call that passed.
+// Where a run has come.
+fn so_far(letter: u8, address: u8, offer: Offer, reached: Reached, bytes: usize) -> Ran
+    ensures { λ r. ⌜ r ≡ record { card = record { letter = letter; address = address; pending = reached .pending; offer = offer }; answer = Taken.Took (reached .at) bytes } ⌝ }
+{
+    let pending = reached.pending;
+    let card = Card {
+        letter,
+        address,
+        pending,
+        offer,
+    };
+    let answer = Taken::Took {
+        words: reached.at,
+        bytes,
+    };
+    Ran { card, answer }
+}
+
+// The run of a call that passed. The words are taken up to one that closes a message, and that one is answered; the sheets are
+// indexed once.
 fn take_all<'a>(
     card: Card,
     bench: &'a [i32],
@@ -343,30 +398,41 @@ fn take_all<'a>(
     words: &[u16],
     out: &mut [u8],
 ) -> Ran
+    requires { ⌜ (soundSheet (now bench) ≡ true) × (soundSheet (now maker) ≡ true) ⌝ }
     ensures { λ r. ⌜ Ends (play (now (bench .entry)) (now (maker .entry)) card (now (values .entry)) (length (now (out .entry))) (now (words .entry))) (now (out .entry)) r (now (values .exit)) (now (out .exit)) ⌝ }
 {
-    let mut held = card;
+    let places = sheet::index(bench, maker);
+    let letter = card.letter;
+    let address = card.address;
+    let mut offer = card.offer;
+    let mut reached = hearing::to_close(card.pending, words, 0);
     let mut at = 0;
-    let mut i = 0;
-    while i < words.len() {
-        let turn = decide(held, bench, maker, values, words[i]);
-        let reply = turn.reply;
+    while reached.at < words.len() {
+        let open = reached.pending;
+        let effect = effect_of(
+            letter,
+            address,
+            offer,
+            bench,
+            maker,
+            &places,
+            values,
+            open.close(),
+        );
+        let said = effect.said;
+        let reply = reply_of(said);
         let bytes = reply.bytes;
         let n = reply.count();
         if !wire::place(&bytes[..n], out, at) {
-            break;
+            return so_far(letter, address, offer, reached, at);
         }
-        let store = turn.store;
+        let store = effect.store;
         keep(values, store);
-        held = turn.card;
+        offer = effect.offer;
         at += n;
-        i += 1;
+        reached = hearing::to_close(Pending::new(), words, reached.at + 1);
     }
-    let answer = Taken::Took {
-        words: i,
-        bytes: at,
-    };
-    Ran { card: held, answer }
+    so_far(letter, address, offer, reached, at)
 }
 
 // Words one after the other, until all are taken or the next reply no longer fits.

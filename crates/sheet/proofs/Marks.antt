@@ -8,15 +8,18 @@ use native.Mathlib.Omega.{arith}
 use borrow.Author.Tests.{lt-ltb, le-ltb, ltb-true, ltb-false, eqb-true, eqb-false, eq-eqb}
 use lib.Dec.{ltb, eqb}
 use lib.IntN.{ℤ, pos, negsuc}
-use lib.ListN.{length, getD, set, take, drop, replicate, length-drop, length-set, length-replicate, getD-replicate}
+use lib.ListN.{length, getD, set, take, drop, replicate, length-drop, length-set, length-replicate, getD-replicate, drop-of-length-le, List·getD-eq-default}
 use lib.Seq.{ext-getD, getD-set-same, getD-set-other}
 use Rattle.refusal.proofs.Logic.{ands, by-test}
 use Rattle.number.specs.Number.{inRange}
+use Rattle.sheet.specs.declared.Entry.{Entry}
+use Rattle.sheet.specs.declared.Entry.the-variants.{Found, Missing}
 use Rattle.sheet.specs.Sheet.{at, soundRow, soundSheet}
 use Rattle.sheet.specs.Lookup.{isCode, placeIn, hasRow, rowIn, rowOf, markedFrom, marked, markedRow, indexOf, partAt}
 use Rattle.sheet.specs.Values.{numbersOf, wholeRow, entryOf, entryIn, entryBy, entryAt}
 use Rattle.sheet.proofs.Rows.{place-here, place-later, place-none, Stands, stands}
 use Rattle.sheet.proofs.Sheets.{row-parts, bench-wins, maker-else, row-of-sound}
+use Rattle.sheet.proofs.Values.{entry-below}
 
 -- ---- what the index holds
 
@@ -153,6 +156,12 @@ by-length : (r : List ℤ) → eqb (length r) 6 ≡ false → entryBy r ≡ entr
 unfolding entryBy entryOf soundRow wholeRow
 by-length r e = rw e refl
 
+-- within a list the default is not seen
+pub getD-within : (xs : List ℕ) (i d e : ℕ) → i < length xs → getD xs i d ≡ getD xs i e
+getD-within [] i d e h = absurd (omega arith)
+getD-within (x ∷ xs) zero d e h = refl
+getD-within (x ∷ xs) (suc i) d e h = getD-within xs i d e (omega arith)
+
 module _ (bench maker : List ℤ) (i : ℕ) where
   -- the place of a code, whatever stood there before
   marked-place : (s : List ℤ) (base : ℕ) (xs : List ℕ) → i < length xs → getD (marked s base xs) i 0 ≡ cond (hasRow s i) (base + placeIn s i) (getD xs i 0)
@@ -200,10 +209,30 @@ module _ (bench maker : List ℤ) (i : ℕ) where
       (λ t. rw t (in-bench t) ∙ sym (bench-wins bench maker i t))
       (λ t. rw t in-maker ∙ sym (maker-else bench maker i t))
 
-  -- under sound sheets the entry there is the code's
-  pub index-entry : soundSheet bench ≡ true → soundSheet maker ≡ true → i < 128 → entryAt bench maker (getD (indexOf bench maker) i 0) ≡ entryIn bench maker i
+  -- a code behind the index has no row
+  past-entry : 128 ≤ i → entryIn bench maker i ≡ Missing
+  past-entry h = go (entryIn bench maker i) refl
+    where
+      go : (x : Entry) → entryIn bench maker i ≡ x → x ≡ Missing
+      go (Found r) e = absurd (omega (arith, h, entry-below bench maker i r e))
+      go Missing e = refl
+
+  end-entry : entryBy (partAt bench maker (length bench + length maker)) ≡ Missing
+  unfolding entryBy wholeRow
+  end-entry = ap entryBy (part-behind (length maker) ∙ ap (take 6) (let h : length maker ≤ length maker = omega arith in drop-of-length-le maker h))
+
+  -- under sound sheets the entry by the index is the code's
+  pub index-entry : soundSheet bench ≡ true → soundSheet maker ≡ true → entryAt bench maker (indexOf bench maker) i ≡ entryIn bench maker i
   unfolding entryAt entryIn
-  index-entry b m h =
-      ap entryBy (index-row h) ∙ by-test (eqb (length (rowOf bench maker i)) 6)
+  index-entry b m =
+      let end = length bench + length maker in
+      let places = indexOf bench maker in
+      by-test (ltb i 128)
+      (λ t. let h = ltb-true i 128 t in
+      ap (λ (k : ℕ). entryBy (partAt bench maker k)) (getD-within places i end 0 (omega (arith, index-long bench maker)))
+      ∙ ap entryBy (index-row h) ∙ by-test (eqb (length (rowOf bench maker i)) 6)
       (λ t. by-sound (rowOf bench maker i) (row-of-sound bench maker i b m (eqb-true (length (rowOf bench maker i)) 6 t)))
-      (λ t. by-length (rowOf bench maker i) t)
+      (λ t. by-length (rowOf bench maker i) t))
+      (λ t. let h = ltb-false i 128 t in
+      ap (λ (k : ℕ). entryBy (partAt bench maker k)) (List·getD-eq-default places end {n = i} (omega (arith, index-long bench maker)))
+      ∙ end-entry ∙ sym (past-entry h))

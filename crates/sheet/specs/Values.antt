@@ -1,10 +1,10 @@
 -- What a row allows, and which values are sound under two sheets.
 use mathlib.Core.Bool.{Bool, true, cond, not, _&&_}
 use mathlib.Core.List.{List, [], _∷_}
-use Prim.Native.Nat.{ℕ, suc}
+use Prim.Native.Nat.{ℕ, suc, _+_}
 use lib.Dec.{eqb}
 use lib.IntN.{ℤ, pos, natAbs}
-use lib.ListN.{length}
+use lib.ListN.{length, getD}
 use Rattle.number.specs.Number.{inRange, isMultiple}
 use Rattle.sheet.specs.Sheet.{at, soundRow}
 use Rattle.sheet.specs.Lookup.{rowOf, partAt}
@@ -32,8 +32,9 @@ wholeRow r = eqb (length r) 6 && inRange (pos 1) (at r 1) (pos 3) && inRange (po
 unfoldable pub entryBy : List ℤ → Entry
 entryBy r = cond (wholeRow r) (Found (numbersOf r)) Missing
 
-unfoldable pub entryAt : List ℤ → List ℤ → ℕ → Entry
-entryAt bench maker place = entryBy (partAt bench maker place)
+-- by an index of the sheets; behind it lies no row
+unfoldable pub entryAt : List ℤ → List ℤ → List ℕ → ℕ → Entry
+entryAt bench maker places i = entryBy (partAt bench maker (getD places i (length bench + length maker)))
 
 -- document 01: access is "1 read only, 2 read and write, 3 write only"
 unfoldable pub isReadable : Row → Bool

@@ -3,7 +3,7 @@
 ghost use mathlib.Core.Path.{_≡_};
 ghost use mathlib.Core.Bool.{true};
 ghost use Prim.Native.Nat.{_+_, _≤_};
-ghost use lib.ListN.{length, take, drop};
+ghost use lib.ListN.{length, getD, take, drop};
 ghost use Rattle.sheet.specs.Sheet.{soundIdentifier, soundNumbers, soundRow, soundSheet};
 ghost use Rattle.sheet.specs.Lookup.{isCode, placeIn, rowOf, shown, markedRow, marked, indexOf, partAt, rowLies, shownLies};
 ghost use Rattle.sheet.specs.Values.{numbersOf, wholeRow, entryOf, entryIn, entryAt, isReadable, isWritable, isReadWrite, fitsRow, fitsPlace, soundValues};
@@ -251,10 +251,23 @@ pub fn find<'a>(bench: &'a [i32], maker: &'a [i32], identifier: u8) -> Entry
     entry_of(part)
 }
 
-// The row at a place of the index, by value. Less of it is tested than in `find`: a run has tested the sheets once.
-pub fn entry_at<'a>(bench: &'a [i32], maker: &'a [i32], place: usize) -> Entry
-    ensures { λ r. ⌜ r ≡ entryAt (now (bench .entry)) (now (maker .entry)) place ⌝ }
+// The place of an identifier in an index; behind both sheets where the index has none.
+fn place_at<'a>(bench: &'a [i32], maker: &'a [i32], places: &[usize], identifier: u8) -> usize
+    ensures { λ r. ⌜ r ≡ getD (now (places .entry)) identifier (length (now (bench .entry)) + length (now (maker .entry))) ⌝ }
 {
+    let at = identifier as usize;
+    if at < places.len() {
+        places[at]
+    } else {
+        bench.len() + maker.len()
+    }
+}
+
+// The row of an identifier by an index of the sheets, by value. Less of it is tested than in `find`: a run has tested the sheets.
+pub fn find_at<'a>(bench: &'a [i32], maker: &'a [i32], places: &[usize], identifier: u8) -> Entry
+    ensures { λ r. ⌜ r ≡ entryAt (now (bench .entry)) (now (maker .entry)) (now (places .entry)) identifier ⌝ }
+{
+    let place = place_at(bench, maker, places, identifier);
     let part = part_at(bench, maker, place);
     if whole_row(part) {
         Entry::Found(numbers_of(part))

@@ -1,76 +1,54 @@
--- `card::closed` meets its contract: the arm says whether a message was heard. Assumes nothing.
-use mathlib.Core.Path.{_≡_, refl, sym, ap, ap₂, _∙_}
+-- `card::closed` meets its contract: the effect is the definition's, and the card is closed and holds what it leaves. Assumes nothing.
+use mathlib.Core.Path.{_≡_, sym, ap, ap₂, _∙_}
+use borrow.Author.Needs.{needs}
 use Rattle.wire.specs.declared.Line.{Line}
-use Rattle.message.specs.declared.Parsed.{Parsed}
 use Rattle.hearing.specs.Hearing.{none}
-use Rattle.act.specs.declared.Offer.{Offer}
-use Rattle.act.specs.declared.Effect.{Effect}
 use Rattle.card.specs.declared.Card.{Card}
 use Rattle.card.specs.declared.Turn.{Turn}
-use Rattle.card.specs.Turn.{replyOf, effectOf, withBoth, turned, stays}
-use Rattle.card.proofs.Turns.{closed-unheard, closed-heard}
-use borrow.Author.Needs.{needs}
+use Rattle.card.specs.Turn.{withBoth, turned}
+use Rattle.card.proofs.Turns.{effect-open}
 use Rattle.card.proofs.closed.Statement.{statement}
 use Rattle.card.proofs.closed.Tie as tie
 
-enum-known-parsed : tie.Need-enum-known-parsed
-enum-known-parsed c = search needs
+index-requires : tie.Need-index-requires
+index-requires c κs = search needs
 
-enum-told : tie.Need-enum-told
-enum-told c = search needs
+slice-aggregate-effect-of : tie.Need-slice-aggregate-effect-of
+slice-aggregate-effect-of c = search needs
 
-close-requires : tie.Need-close-requires
-close-requires c κs = search needs
-
-quiet-requires : tie.Need-quiet-requires
-quiet-requires c κs = search needs
-
-returns : tie.Need-returns
-returns c =
-    let s = c .before .before .before .before in
-    let a = s .args in
-    c .quiet .ensures
-    ∙ ap stays (c .before .close .ensures)
-    ∙ sym (closed-unheard (a .bench .now) (a .maker .now) (a .card) (a .values .now))
-    ∙ ap (λ (p : Parsed). turned (a .card) none (effectOf (a .bench .now) (a .maker .now) (a .card) (a .values .now) p)) (sym (c .before .before .enum-told .given .1))
-
-act-requires : tie.Need-act-requires
-act-requires c κs = search needs
+effect-of-requires : tie.Need-effect-of-requires
+effect-of-requires c κs =
+    let s = c .before .before in
+    (s .pre .0, s .pre .1, c .before .index .ensures)
 
 reply-of-requires : tie.Need-reply-of-requires
 reply-of-requires c κs = search needs
 
-close-requires-2 : tie.Need-close-requires-2
-close-requires-2 c κs = search needs
+close-requires : tie.Need-close-requires
+close-requires c κs = search needs
 
 hold-requires : tie.Need-hold-requires
 hold-requires c κs = search needs
 
-returns-2 : tie.Need-returns-2
+returns : tie.Need-returns
 unfolding turned
-returns-2 c =
+returns c =
     let e = c .before .before .before in
-    let s = e .before .before .before .before in
+    let s = e .before .before .before in
     let a = s .args in
-    let m = e .before .before .parsed .given in
-    let k : c .hold .result ≡ withBoth (a .card) none (e .act .result .offer)
-    = c .hold .ensures ∙ ap (λ (x : Card). withBoth x (x .pending) (e .act .result .offer)) (c .before .close2 .ensures) in
-    ap₂ (λ (x : Card) (l : Line). record { card = x; reply = l; store = e .act .result .store }) k (c .before .before .reply-of .ensures)
-    ∙ ap (turned (a .card) none) (e .act .ensures)
-    ∙ sym (closed-heard (a .bench .now) (a .maker .now) (a .card) (a .values .now) (m .0 .0))
-    ∙ ap (λ (p : Parsed). turned (a .card) none (effectOf (a .bench .now) (a .maker .now) (a .card) (a .values .now) p)) (sym (m .1))
+    let k : c .hold .result ≡ withBoth (a .card) none (e .effect-of .result .offer)
+    = c .hold .ensures ∙ ap (λ (x : Card). withBoth x (x .pending) (e .effect-of .result .offer)) (c .before .close .ensures) in
+    ap₂ (λ (x : Card) (l : Line). record { card = x; reply = l; store = e .effect-of .result .store }) k (c .before .before .reply-of .ensures)
+    ∙ ap (turned (a .card) none) (e .effect-of .ensures ∙ effect-open (a .bench .now) (a .maker .now) (a .card) (a .values .now) (a .parsed))
 
 pub closed-spec : {M : Type 1} → statement M
 closed-spec =
     tie.close
     (tie.spec
-    enum-known-parsed
-    enum-told
-    close-requires
-    quiet-requires
-    returns
-    act-requires
+    index-requires
+    slice-aggregate-effect-of
+    effect-of-requires
     reply-of-requires
-    close-requires-2
+    close-requires
     hold-requires
-    returns-2)
+    returns)

@@ -3,7 +3,7 @@ use mathlib.Core.Path.{_≡_, refl, sym, ap, ap₂, _∙_}
 use Rattle.card.specs.declared.Verdict.{Verdict}
 use Rattle.card.specs.Turn.{Played, play}
 use Rattle.card.specs.Calls.{Run, runBy}
-use Rattle.card.proofs.Steps.{run-refused, run-served}
+use Rattle.card.proofs.Steps.{sheets-sound, run-refused, run-served}
 use borrow.Author.Needs.{needs}
 use Rattle.card.proofs.run.Statement.{statement}
 use Rattle.card.proofs.run.Tie as tie
@@ -18,7 +18,11 @@ enum-told : tie.Need-enum-told
 enum-told c = search needs
 
 take-all-requires : tie.Need-take-all-requires
-take-all-requires c κs = search needs
+take-all-requires c κs =
+    let n = c .before .before in
+    let k = n .before .before in
+    let a = k .before .before .before .before .args in
+    sheets-sound (a .card) (a .bench .now) (a .maker .now) (a .values .now) (a .words .now) (sym (k .check .ensures) ∙ n .enum-told .given .1)
 
 same-length : tie.Need-same-length
 same-length c = search needs

@@ -1,8 +1,9 @@
 -- `card::step` meets its contract: the verdict says whether it is refused or the word is taken. Assumes nothing.
 use mathlib.Core.Path.{_≡_, refl, sym, ap, ap₂, _∙_}
+use mathlib.Core.List.{[], _∷_}
 use Rattle.card.specs.declared.Verdict.{Verdict}
 use Rattle.card.specs.Calls.{Step}
-use Rattle.card.proofs.Steps.{step-refused, step-served}
+use Rattle.card.proofs.Steps.{sheets-sound, step-refused, step-served}
 use borrow.Author.Needs.{needs}
 use Rattle.card.proofs.step.Statement.{statement}
 use Rattle.card.proofs.step.Tie as tie
@@ -20,7 +21,11 @@ enum-told : tie.Need-enum-told
 enum-told c = search needs
 
 take-requires : tie.Need-take-requires
-take-requires c κs = search needs
+take-requires c κs =
+    let n = c .before .before in
+    let k = n .before .before in
+    let a = k .before .before .before .before .args in
+    sheets-sound (a .card) (a .bench .now) (a .maker .now) (a .values .now) (a .word ∷ []) (sym (k .check .ensures) ∙ n .enum-told .given .1)
 
 same-length : tie.Need-same-length
 same-length c = search needs

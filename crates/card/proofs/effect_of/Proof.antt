@@ -1,0 +1,43 @@
+-- `card::effect_of` meets its contract: the arm says whether a message was heard, and the index gives its entry. Assumes nothing.
+use mathlib.Core.Path.{_≡_, sym, ap, _∙_}
+use borrow.Author.Needs.{needs}
+use Rattle.message.specs.declared.Parsed.{Parsed}
+use Rattle.hearing.specs.Hearing.{none}
+use Rattle.card.specs.declared.Card.{Card}
+use Rattle.card.specs.Turn.{effectOf}
+use Rattle.card.proofs.Turns.{effect-unheard, effect-heard}
+use Rattle.card.proofs.effect_of.Statement.{statement}
+use Rattle.card.proofs.effect_of.Tie as tie
+
+-- the card as far as it matters
+abbrev held : tie.Start → Card
+held s = record { letter = s .args .letter; address = s .args .address; pending = none; offer = s .args .offer }
+
+enum-known-parsed : tie.Need-enum-known-parsed
+enum-known-parsed c = search needs
+
+enum-told : tie.Need-enum-told
+enum-told c = search needs
+
+returns : tie.Need-returns
+returns c =
+    let s = c .before .before .before in
+    let a = s .args in
+    effect-unheard (a .bench .now) (a .maker .now) (held s) (a .values .now)
+    ∙ ap (effectOf (a .bench .now) (a .maker .now) (held s) (a .values .now)) (sym (c .enum-told .given .1))
+
+act-requires : tie.Need-act-requires
+act-requires c κs = search needs
+
+returns-2 : tie.Need-returns-2
+returns-2 c =
+    let k = c .before in
+    let s = k .before .before .before .before in
+    let a = s .args in
+    let m = k .before .parsed .given in
+    c .act .ensures
+    ∙ effect-heard (a .bench .now) (a .maker .now) (held s) (a .values .now) (a .places .now) (m .0 .0) (s .pre .0) (s .pre .1) (s .pre .2)
+    ∙ ap (effectOf (a .bench .now) (a .maker .now) (held s) (a .values .now)) (sym (m .1))
+
+pub effect-of-spec : {M : Type 1} → statement M
+effect-of-spec = tie.close (tie.spec enum-known-parsed enum-told returns act-requires returns-2)
