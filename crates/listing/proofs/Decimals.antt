@@ -1,26 +1,18 @@
--- The decimal digits of a number, by the quotient and the remainder by ten, and how many there are; so the longest line.
--- Assumes nothing.
+-- The decimal digits of a number, by the quotient and the remainder by ten, and how many there are. So a loop that puts the
+-- remainders by ten before a text, from the last to the first, puts the digits. Assumes nothing.
 use mathlib.Core.Path.{_≡_, refl, sym, ap, _∙_}
-use mathlib.Core.List.{List, [], _∷_, _++_}
-use Prim.Native.Nat.{ℕ, zero, suc, _+_, _/_, _%_, _^_, _<_, _≤_}
+use mathlib.Core.List.{List, [], _∷_, _++_, append-assoc}
+use Prim.Native.Nat.{ℕ, zero, suc, _+_, _-_, _/_, _%_, _^_, _<_, _≤_}
 use native.Mathlib.Nat.{not-suc-le-zero, pow-suc}
 use native.Mathlib.Omega.{arith}
 use borrow.Author.Tests.{lt-ltb, le-ltb, ltb-true, ltb-false}
-use lib.Dec.{ltb, lit≤}
-use lib.ListN.{length, length-append}
+use lib.Dec.{ltb}
+use lib.ListN.{length, drop, set, length-append, length-set}
 use Rattle.refusal.proofs.Logic.{by-test}
-use Rattle.wire.specs.Text.{chars}
 use Rattle.number.specs.Data.{digit}
-use Rattle.number.proofs.Digits.{data-length}
-use Rattle.message.specs.declared.Body.{Body}
-use Rattle.message.specs.declared.Body.the-variants.{Status, Query, Up, Down, Set, Store}
-use Rattle.message.specs.declared.Message.{Message}
-use Rattle.message.specs.Spell.{spellAddress}
-use Rattle.message.proofs.Spelling.{address-length}
-use Rattle.listing.specs.declared.Text.{Text}
-use Rattle.listing.specs.Text.{longest, empty, put, puts, held}
-use Rattle.listing.specs.Line.{decimalIn, decimal, kindAndData, line}
-use Rattle.listing.proofs.Texts.{puts-append, puts-one, held-puts}
+use Rattle.listing.specs.Text.{Room, Before}
+use Rattle.listing.specs.Line.{decimalIn, decimal}
+use Rattle.listing.proofs.Texts.{set-front}
 
 -- ---- by the quotient and the remainder
 
@@ -56,6 +48,12 @@ decimal-many (suc n) h =
 
 -- ---- how many there are
 
+pub decimal-some : (n : ℕ) → 1 ≤ length (decimal n)
+decimal-some n =
+    by-test (ltb n 10)
+    (λ t. omega (arith, ap length (decimal-few n (ltb-true n 10 t))))
+    (λ t. omega (arith, ap length (decimal-many n (ltb-false n 10 t)), length-append (decimal (n / 10)) (digit (n % 10) ∷ [])))
+
 pub decimal-length : (k n : ℕ) → n < 10 ^ suc k → length (decimal n) ≤ suc k
 decimal-length zero n h = omega (arith, ap length (decimal-few n h))
 decimal-length (suc k) n h =
@@ -66,67 +64,51 @@ decimal-length (suc k) n h =
     omega
     (arith, ap length (decimal-many n m), length-append (decimal (n / 10)) (digit (n % 10) ∷ []), decimal-length k (n / 10) (omega (arith, pow-suc 10 (suc k)))))
 
--- ---- put on a text
-
-pub puts-few : (t : Text) (n : ℕ) → n < 10 → puts t (decimal n) ≡ put t (48 + n)
-unfolding digit
-puts-few t n h = ap (puts t) (decimal-few n h) ∙ puts-one t (48 + n)
-
-pub puts-many : (t : Text) (n : ℕ) → 10 ≤ n → puts t (decimal n) ≡ put (puts t (decimal (n / 10))) (48 + n % 10)
-unfolding digit
-puts-many t n h = ap (puts t) (decimal-many n h) ∙ puts-append t (decimal (n / 10)) ((48 + n % 10) ∷ []) ∙ puts-one (puts t (decimal (n / 10))) (48 + n % 10)
-
--- the parts of a line, one after the other
-pub puts-line : (t : Text) (at : ℕ) (m : Message)
-    → puts t (line at m) ≡ put (puts (put (put (put (puts (put (put (puts t (decimal at)) 32) (m .letter)) (spellAddress (m .address))) 32) (m .identifier)) 32) (kindAndData (m .body))) 10
-unfolding line puts
-puts-line t at m =
-    let a = spellAddress (m .address) in
-    let b = kindAndData (m .body) in
-    let u = put (put (puts t (decimal at)) 32) (m .letter) in
-    let v = put (put (put (puts u a) 32) (m .identifier)) 32 in
-    puts-append t (decimal at) (32 ∷ m .letter ∷ (a ++ (32 ∷ m .identifier ∷ 32 ∷ (b ++ (10 ∷ [])))))
-    ∙ puts-append u a (32 ∷ m .identifier ∷ 32 ∷ (b ++ (10 ∷ [])))
-    ∙ puts-append v b (10 ∷ [])
-
--- the same, with a name for each text
-pub line-text : (at : ℕ) (m : Message) {t₀ t₁ t₂ t₃ t₄ t₅ t₆ t₇ t₈ t₉ : Text} → t₀ ≡ empty → t₁ ≡ puts t₀ (decimal at) → t₂ ≡ put t₁ 32 → t₃ ≡ put t₂ (m .letter)
-    → t₄ ≡ puts t₃ (spellAddress (m .address)) → t₅ ≡ put t₄ 32 → t₆ ≡ put t₅ (m .identifier) → t₇ ≡ put t₆ 32 → t₈ ≡ puts t₇ (kindAndData (m .body)) → t₉ ≡ put t₈ 10
-    → t₉ ≡ puts empty (line at m)
-line-text at m e₀ e₁ e₂ e₃ e₄ e₅ e₆ e₇ e₈ e₉ = cc (puts-line empty at m)
-
--- a word, a number and the line's end
-pub puts-numbered : (t : Text) (word : List ℕ) (n : ℕ) → puts t (word ++ (decimal n ++ chars "\n")) ≡ put (puts (puts t word) (decimal n)) 10
-unfolding puts
-puts-numbered t word n = puts-append t word (decimal n ++ (10 ∷ [])) ∙ puts-append (puts t word) (decimal n) (10 ∷ [])
-
--- ---- the longest line
-
-kind-length : (b : Body) → length (kindAndData b) ≤ 7
-unfolding kindAndData
-kind-length Status = lit≤ tt
-kind-length Query = lit≤ tt
-kind-length Up = lit≤ tt
-kind-length Down = lit≤ tt
-kind-length (Set n d) = omega (arith, data-length n d)
-kind-length Store = lit≤ tt
-
 -- a number of 64 bits
 pub wide-length : (n : ℕ) → n < 2 ^ 64 → length (decimal n) ≤ 20
 wide-length n h = decimal-length 19 n (omega arith)
 
-pub line-length : (at : ℕ) (m : Message) → at < 2 ^ 64 → length (line at m) ≤ longest
-unfolding line
-line-length at m h =
-    simp length-append (omega (arith, wide-length at h, address-length (m .address), kind-length (m .body)))
+-- ---- put before a text, from the last digit to the first
 
-pub numbered-length : (word : List ℕ) (n : ℕ) → n < 2 ^ 64 → length word ≡ 4 → length (word ++ (decimal n ++ chars "\n")) ≤ longest
-numbered-length word n h e = simp length-append (omega (arith, wide-length n h))
+-- a loop that puts the digits of n before a text that stood from a place on: the digits of `rest` are still to be put
+pub record Putting (n from : ℕ) (was : List ℕ) (rest at : ℕ) (is : List ℕ) : Type 0 where
+  pub long : length is ≡ length was
+  pub within : at ≤ from
+  pub begins : at + length (decimal n) ≡ from + length (decimal rest)
+  pub stands : decimal rest ++ drop at is ≡ decimal n ++ drop from was
 
--- what the texts hold
-pub held-line : (t : Text) (at : ℕ) (m : Message) → at < 2 ^ 64 → t ≡ puts empty (line at m) → held t ≡ line at m
-held-line t at m h e = ap held e ∙ held-puts (line at m) (line-length at m h)
+pub putting-starts : (n from : ℕ) (was : List ℕ) → Putting n from was n from was
+putting-starts n from was = record { long = refl; within = omega arith; begins = refl; stands = refl }
 
-pub held-numbered : (t : Text) (word : List ℕ) (n : ℕ) → n < 2 ^ 64 → length word ≡ 4 → t ≡ put (puts (puts empty word) (decimal n)) 10 → held t ≡ word ++ (decimal n ++ chars "\n")
-held-numbered t word n h l e =
-    ap held (e ∙ sym (puts-numbered empty word n)) ∙ held-puts (word ++ (decimal n ++ chars "\n")) (numbered-length word n h l)
+module _ (n from : ℕ) (was : List ℕ) (rest at : ℕ) (is : List ℕ) (p : Putting n from was rest at is) (wide : n < 2 ^ 64) (room : Room 20 from was) where
+  pub putting-room : length (decimal rest) ≤ at
+  putting-room = omega (arith, wide-length n wide)
+
+  -- one digit
+  pub putting-more : 9 < rest → Putting n from was (rest / 10) (at - 1) (set is (at - 1) (48 + rest % 10))
+  unfolding digit
+  putting-more h =
+      let l = ap length (decimal-many rest h) ∙ length-append (decimal (rest / 10)) ((48 + rest % 10) ∷ []) in
+      let g : at - 1 + 1 ≡ at = omega (arith, putting-room) in
+      record {
+        long = length-set is (at - 1) (48 + rest % 10) ∙ p .long;
+        within = omega arith;
+        begins = omega (arith, putting-room);
+        stands =
+            ap (λ (x : List ℕ). decimal (rest / 10) ++ x)
+            (set-front is (at - 1) (48 + rest % 10) (omega (arith, putting-room)) ∙ ap (λ (k : ℕ). (48 + rest % 10) ∷ drop k is) g)
+            ∙ sym (append-assoc (decimal (rest / 10)) ((48 + rest % 10) ∷ []) (drop at is))
+            ∙ ap (λ (x : List ℕ). x ++ drop at is) (sym (decimal-many rest h))
+            ∙ p .stands;
+      }
+
+  -- the first digit
+  pub putting-ends : rest ≤ 9 → (r : ℕ) (is′ : List ℕ) → Before 1 ((48 + rest) ∷ []) at is r is′ → Before 20 (decimal n) from was r is′
+  unfolding digit
+  putting-ends h r is′ b =
+      let d : decimal rest ≡ (48 + rest) ∷ [] = decimal-few rest (omega arith) in
+      record {
+        few = wide-length n wide;
+        begins = omega (arith, ap length d, b .begins);
+        stands = b .stands ∙ ap (λ (x : List ℕ). x ++ drop at is) (sym d) ∙ p .stands;
+      }

@@ -1,84 +1,68 @@
--- A text that is built one character after the other holds those characters. Assumes nothing.
-use mathlib.Core.Path.{_≡_, refl, sym, ap, _∙_, subst}
+-- A text grows at its front: what is put before it stands before it, and the rest is as it was. So a line is its parts, put from the
+-- last to the first. Assumes nothing.
+use mathlib.Core.Path.{_≡_, sym, ap, _∙_}
 use mathlib.Core.Bool.{Bool, cond}
 use mathlib.Core.List.{List, [], _∷_, _++_, append-nil, append-assoc}
-use Prim.Native.Nat.{ℕ, _+_, _<_, _≤_}
+use Prim.Native.Nat.{ℕ, suc, _+_, _-_, _<_, _≤_}
 use native.Mathlib.Numerals.{add-one}
 use native.Mathlib.Omega.{arith}
-use borrow.Author.Tests.{lt-ltb}
-use lib.ListN.{length, getD, take, drop, set, length-append, length-set, length-take, drop-of-length-le}
-use lib.Seq.{drop-cons, take-suc-set}
+use borrow.Author.Tests.{le-leb}
+use borrow.Rule.Slice.PartMut.{midOf}
+use lib.ListN.{length, take, drop, set, length-append, length-drop, length-set}
+use lib.Seq.{drop-cons, drop-length, drop-set-lt, getD-set-same, drop-at, length-take-le, take-all}
 use Rattle.wire.specs.Line.{fitsAt, placed}
-use Rattle.listing.specs.declared.Text.{Text}
-use Rattle.listing.specs.Text.{longest, empty, put, puts, held}
+use Rattle.listing.specs.Text.{Room, Before, Holds}
 
-pub puts-append : (t : Text) (cs ds : List ℕ) → puts t (cs ++ ds) ≡ puts (puts t cs) ds
-unfolding puts
-puts-append t [] ds = refl
-puts-append t (c ∷ cs) ds = puts-append (put t c) cs ds
+-- one store
+pub set-front : (was : List ℕ) (r c : ℕ) → r < length was → drop r (set was r c) ≡ c ∷ drop (r + 1) was
+set-front was r c h =
+    drop-cons (set was r c) r 0 (omega (arith, length-set was r c))
+    ∙ ap (λ (x : ℕ). x ∷ drop (suc r) (set was r c)) (getD-set-same was r c 0 h)
+    ∙ ap (λ (l : List ℕ). c ∷ l) (drop-set-lt (suc r) was r c (omega arith))
+    ∙ ap (λ (n : ℕ). c ∷ drop n was) (sym (add-one r))
 
--- one and two characters
-pub puts-one : (t : Text) (c : ℕ) → puts t (c ∷ []) ≡ put t c
-unfolding puts
-puts-one t c = refl
+pub one-before : (was : List ℕ) (from c : ℕ) → Room 1 from was → Before 1 (c ∷ []) from was (from - 1) (set was (from - 1) c)
+one-before was from c h =
+    let e : from - 1 + 1 ≡ from = omega arith in
+    record { few = omega arith; begins = e; stands = set-front was (from - 1) c (omega arith) ∙ ap (λ (n : ℕ). c ∷ drop n was) e }
 
-pub puts-cons : (t : Text) (c : ℕ) (cs : List ℕ) → puts t (c ∷ cs) ≡ puts (put t c) cs
-unfolding puts
-puts-cons t c cs = refl
+-- characters that are placed
+pub all-before : (was : List ℕ) (from : ℕ) (xs : List ℕ) → Room (length xs) from was → (is : List ℕ)
+    → is ≡ cond (fitsAt xs (from - length xs) was) (placed xs (from - length xs) was) was → Before (length xs) xs from was (from - length xs) is
+unfolding fitsAt placed
+all-before was from xs h is e =
+    let n : from - length xs + length xs ≡ from = omega arith in
+    let at = from - length xs in
+    let f : is ≡ (take at was ++ xs) ++ drop (at + length xs) was = e ∙ ap (λ (b : Bool). cond b ((take at was ++ xs) ++ drop (at + length xs) was) was) (le-leb (at + length xs) (length was) (omega arith)) in
+    record {
+      few = omega arith;
+      begins = n;
+      stands =
+          ap (drop at) (f ∙ append-assoc (take at was) xs (drop (at + length xs) was))
+          ∙ drop-at (take at was) (xs ++ drop (at + length xs) was) at (length-take-le at was (omega arith))
+          ∙ ap (λ (k : ℕ). xs ++ drop k was) n;
+    }
 
--- from an index on
-pub puts-more : (t : Text) (cs : List ℕ) (i : ℕ) → i < length cs → puts t (drop i cs) ≡ puts (put t (getD cs i 0)) (drop (i + 1) cs)
-unfolding puts
-puts-more t cs i h = rw (add-one, drop-cons cs i 0 h)
+-- two parts, one before the other
+pub both-before : {j k from r r′ : ℕ} {xs ys was is is′ : List ℕ} → Before k xs from was r is → Before j ys r is r′ is′ → Before (j + k) (ys ++ xs) from was r′ is′
+both-before {from = from} {xs = xs} {ys = ys} {was = was} a b = record {
+  few = omega (arith, length-append ys xs);
+  begins = omega (arith, length-append ys xs);
+  stands = b .stands ∙ ap (λ (l : List ℕ). ys ++ l) (a .stands) ∙ sym (append-assoc ys xs (drop from was));
+}
 
-pub puts-done : (t : Text) (cs : List ℕ) (i : ℕ) → length cs ≤ i → puts t (drop i cs) ≡ t
-unfolding puts
-puts-done t cs i h = rw (drop-of-length-le cs h)
+-- the same characters under another name, and a looser bound
+pub as-before : {k from r : ℕ} {xs was is : List ℕ} → Before k xs from was r is → (j : ℕ) (ys : List ℕ) → ys ≡ xs → k ≤ j → Before j ys from was r is
+as-before b j ys e h =
+    rw e (record { few = omega arith; begins = b .begins; stands = b .stands })
 
--- ---- what a text holds
+-- nothing stands behind the array
+pub holds : {most from r : ℕ} {xs was is : List ℕ} → length is ≡ length was → from ≡ length was → Before most xs from was r is → Holds xs r is
+holds {xs = xs} {was = was} e f b = record {
+  begins = omega (arith, b .begins);
+  stands = b .stands ∙ ap (λ (l : List ℕ). xs ++ l) (ap (λ (n : ℕ). drop n was) f ∙ drop-length was) ∙ append-nil xs;
+}
 
-record Holds (t : Text) (cs : List ℕ) : Type 0 where
-  len-is : t .len ≡ length cs
-  held-is : held t ≡ cs
-  room : length (t .bytes) ≡ longest
-
-empty-holds : Holds empty []
-unfolding empty held
-empty-holds = record { len-is = refl; held-is = refl; room = refl }
-
-put-holds : (t : Text) (cs : List ℕ) (c : ℕ) → Holds t cs → length cs < longest → Holds (put t c) (cs ++ (c ∷ []))
-unfolding put held
-put-holds t cs c h l =
-    let n : t .len ≡ length cs = h .len-is in
-    let r : length (t .bytes) ≡ longest = h .room in
-    let in′ : t .len < length (t .bytes) = omega arith in
-    subst (λ (x : Text). Holds x (cs ++ (c ∷ [])))
-    (sym (ap (λ (b : Bool). cond b (record { bytes = set (t .bytes) (t .len) c; len = t .len + 1 }) t) (lt-ltb (t .len) longest (omega arith))))
-    (record {
-      len-is = omega (arith, length-append cs (c ∷ []));
-      held-is =
-          ap (λ (k : ℕ). take k (set (t .bytes) (t .len) c)) (add-one (t .len))
-          ∙ take-suc-set (t .bytes) (t .len) c in′
-          ∙ ap (λ (l : List ℕ). l ++ (c ∷ [])) (h .held-is);
-      room = length-set (t .bytes) (t .len) c ∙ r;
-    })
-
-puts-holds : (t : Text) (cs ds : List ℕ) → Holds t cs → length cs + length ds ≤ longest → Holds (puts t ds) (cs ++ ds)
-unfolding puts
-puts-holds t cs [] h l = rw append-nil h
-puts-holds t cs (d ∷ ds) h l =
-    rw append-assoc at
-    (puts-holds (put t d) (cs ++ (d ∷ [])) ds (put-holds t cs d h (omega arith)) (omega (arith, length-append cs (d ∷ []))))
-
-pub held-puts : (cs : List ℕ) → length cs ≤ longest → held (puts empty cs) ≡ cs
-held-puts cs h = puts-holds empty [] cs empty-holds (omega arith) .held-is
-
-pub held-fit : (t : Text) → length (held t) ≤ length (t .bytes)
-unfolding held
-held-fit t = omega (arith, length-take (t .len) (t .bytes))
-
--- what is said of placing xs is said of placing what xs is
-pub placed-as : {xs ys : List ℕ} → xs ≡ ys → (at : ℕ) (out : List ℕ) {r : Bool} {out′ : List ℕ} → r ≡ fitsAt xs at out → out′ ≡ cond (fitsAt xs at out) (placed xs at out) out
-    → (r ≡ fitsAt ys at out) × (out′ ≡ cond (fitsAt ys at out) (placed ys at out) out)
-placed-as e at out f p =
-    (f ∙ ap (λ (l : List ℕ). fitsAt l at out) e, p ∙ ap (λ (l : List ℕ). cond (fitsAt l at out) (placed l at out) out) e)
+-- the part that is lent from a place on is the text
+pub part-holds : (xs : List ℕ) (r : ℕ) (text : List ℕ) (n : ℕ) → length text ≡ n → Holds xs r text → midOf r (n - r) text ≡ xs
+part-holds xs r text n e h = take-all (n - r) (drop r text) (omega (arith, length-drop r text)) ∙ h .stands

@@ -1,27 +1,25 @@
--- Plain characters in an array, one put behind the other.
-use mathlib.Core.Bool.{cond}
-use mathlib.Core.List.{List, [], _∷_}
-use Prim.Native.Nat.{ℕ, _+_}
-use lib.Dec.{ltb}
-use lib.ListN.{take, set, replicate}
-use Rattle.listing.specs.declared.Text.{Text}
+-- A text is built from its last character to its first, at the end of an array: it is what stands from a place on.
+use mathlib.Core.Path.{_≡_}
+use mathlib.Core.List.{List, _++_}
+use Prim.Native.Nat.{ℕ, _+_, _≤_}
+use lib.ListN.{length, drop}
 
 -- the most characters that a line has: a position of twenty digits, and a message with data
 abbrev pub longest : ℕ
 longest = 35
 
-unfoldable pub empty : Text
-empty = record { bytes = replicate longest 0; len = 0 }
+-- before a place of the array there is room for so many characters
+pub record Room (most from : ℕ) (text : List ℕ) : Type 0 where
+  pub enough : most ≤ from
+  pub within : from ≤ length text
 
--- one character more; a full text stays as it is
-unfoldable pub put : Text → ℕ → Text
-put t c = cond (ltb (t .len) longest) (record { bytes = set (t .bytes) (t .len) c; len = t .len + 1 }) t
+-- the array `was`, with a text from a place on, has become `is`: xs, of so many characters at most, stand before the text, from r on
+pub record Before (most : ℕ) (xs : List ℕ) (from : ℕ) (was : List ℕ) (r : ℕ) (is : List ℕ) : Type 0 where
+  pub few : length xs ≤ most
+  pub begins : r + length xs ≡ from
+  pub stands : drop r is ≡ xs ++ drop from was
 
--- these characters more, one after the other
-unfoldable pub puts : Text → List ℕ → Text
-puts t [] = t
-puts t (c ∷ cs) = puts (put t c) cs
-
--- the characters that a text holds
-unfoldable pub held : Text → List ℕ
-held t = take (t .len) (t .bytes)
+-- the array holds xs and nothing behind, from r on
+pub record Holds (xs : List ℕ) (r : ℕ) (text : List ℕ) : Type 0 where
+  pub begins : r ≤ length text
+  pub stands : drop r text ≡ xs

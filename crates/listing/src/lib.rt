@@ -1,13 +1,15 @@
 // The listing of a recording: the line of a message, the lines of a buffer of words, and the last line.
 ghost use mathlib.Core.Path.{_≡_};
 ghost use mathlib.Core.Bool.{cond};
+ghost use mathlib.Core.List.{[], _∷_, _++_};
 ghost use Prim.Native.Nat.{_+_, _<_, _≤_};
 ghost use lib.ListN.{length, getD};
 ghost use Rattle.refusal.specs.Refusal.{outcomeOf};
 ghost use Rattle.refusal.specs.Call.{writes, laid};
-ghost use Rattle.wire.specs.Line.{placed, fitsAt};
+ghost use Rattle.wire.specs.Line.{placed};
+ghost use Rattle.wire.specs.Text.{chars};
 ghost use Rattle.message.specs.Spell.{spellAddress};
-ghost use Rattle.listing.specs.Text.{empty, put, puts, held};
+ghost use Rattle.listing.specs.Text.{longest, Room, Before, Holds};
 ghost use Rattle.listing.specs.Line.{decimal, kindAndData, line, lineCall};
 ghost use Rattle.listing.specs.Listing.{heading, wordOf, start, lineAt, fitsBehind, stepped, lastLine, listed, answerOf};
 use hearing::Pending;
@@ -19,12 +21,6 @@ use refusal::Written;
 
 // The longest line: a position of twenty digits, and a message with data.
 pub const LONGEST: usize = 35;
-
-// Plain characters, 0 behind the last.
-struct Text {
-    bytes: [u8; LONGEST],
-    len: usize,
-}
 
 // How far the listing has come: the open message, the position of the next word, the messages so far.
 pub struct Progress {
@@ -62,73 +58,6 @@ struct Step {
     fits: bool,
 }
 
-impl Text {
-    fn new() -> Text
-        ensures { λ r. ⌜ r ≡ empty ⌝ }
-    {
-        let bytes = [0u8; LONGEST];
-        Text { bytes, len: 0 }
-    }
-
-    // One character more; a full text stays as it is.
-    fn put(self, c: u8) -> Text
-        ensures { λ r. ⌜ r ≡ put self c ⌝ }
-    {
-        let len = self.len;
-        if LONGEST <= len {
-            return self;
-        }
-        let mut bytes = self.bytes;
-        bytes[len] = c;
-        let next = len + 1;
-        Text { bytes, len: next }
-    }
-
-    // These characters more, one after the other.
-    fn put_all(self, characters: &[u8]) -> Text
-        ensures { λ r. ⌜ r ≡ puts self (now (characters .entry)) ⌝ }
-    {
-        let mut text = self;
-        let mut i = 0;
-        while i < characters.len() {
-            text = text.put(characters[i]);
-            i += 1;
-        }
-        text
-    }
-
-    // How many characters the text holds.
-    fn count(self) -> usize
-        ensures { λ r. ⌜ r ≡ length (held self) ⌝ }
-    {
-        let len = self.len;
-        if len < LONGEST { len } else { LONGEST }
-    }
-
-    // The characters into a buffer from a place on, where they fit; otherwise nothing is written.
-    fn place(self, out: &mut [u8], at: usize) -> bool
-        ensures fits { λ r. ⌜ r ≡ fitsAt (held self) at (now (out .entry)) ⌝ }
-        ensures leaves { λ r. ⌜ now (out .exit) ≡ cond (fitsAt (held self) at (now (out .entry))) (placed (held self) at (now (out .entry))) (now (out .entry)) ⌝ }
-    {
-        let bytes = self.bytes;
-        let end = self.count();
-        wire::place(&bytes[..end], out, at)
-    }
-
-    // The characters at the front of a buffer.
-    fn write(self, out: &mut [u8]) -> Written
-        ensures answers { λ r. ⌜ outcomeOf r ≡ writes (held self) (now (out .entry)) .outcome ⌝ }
-        ensures leaves { λ r. ⌜ now (out .exit) ≡ writes (held self) (now (out .entry)) .buffer ⌝ }
-    {
-        let end = self.count();
-        if self.place(out, 0) {
-            Written::Wrote(end)
-        } else {
-            Written::Refused(Refusal::RoomTooShort)
-        }
-    }
-}
-
 // The first line of every listing.
 pub fn heading() -> [u8; 21]
     ensures { λ r. ⌜ r ≡ heading ⌝ }
@@ -148,55 +77,110 @@ pub fn start() -> Progress
     }
 }
 
-// The decimal digits of a number, without leading zeros.
-fn put_decimal(text: Text, n: u64) -> Text
-    ensures { λ r. ⌜ r ≡ puts text (decimal n) ⌝ }
+// A text is built from its last character to its first. Each of these puts characters before what stands from a place on, and
+// gives the place where they begin.
+
+// One character.
+fn put(text: &mut [u8], from: usize, c: u8) -> usize
+    requires { ⌜ Room 1 from (now text) ⌝ }
+    ensures { λ r. ⌜ Before 1 (c ∷ []) from (now (text .entry)) r (now (text .exit)) ⌝ }
 {
-    if n < 10 {
-        return text.put(48 + n as u8);
+    let at = from - 1;
+    text[at] = c;
+    at
+}
+
+// These characters.
+fn put_all(text: &mut [u8], from: usize, characters: &[u8]) -> usize
+    requires { ⌜ Room (length (now characters)) from (now text) ⌝ }
+    ensures { λ r. ⌜ Before (length (now (characters .entry))) (now (characters .entry)) from (now (text .entry)) r (now (text .exit)) ⌝ }
+{
+    let at = from - characters.len();
+    wire::place(characters, text, at);
+    at
+}
+
+// The decimal digits of a number, without leading zeros.
+fn put_decimal(text: &mut [u8], from: usize, n: u64) -> usize
+    requires { ⌜ Room 20 from (now text) ⌝ }
+    ensures { λ r. ⌜ Before 20 (decimal n) from (now (text .entry)) r (now (text .exit)) ⌝ }
+{
+    let mut at = from;
+    let mut rest = n;
+    while 9 < rest {
+        at -= 1;
+        text[at] = 48 + (rest % 10) as u8;
+        rest /= 10;
     }
-    let front = put_decimal(text, n / 10);
-    front.put(48 + (n % 10) as u8)
+    put(text, at, 48 + rest as u8)
 }
 
 // An address without a leading zero.
-fn put_address(text: Text, address: u8) -> Text
-    ensures { λ r. ⌜ r ≡ puts text (spellAddress address) ⌝ }
+fn put_address(text: &mut [u8], from: usize, address: u8) -> usize
+    requires { ⌜ Room 2 from (now text) ⌝ }
+    ensures { λ r. ⌜ Before 2 (spellAddress address) from (now (text .entry)) r (now (text .exit)) ⌝ }
 {
     if address <= 9 {
-        return text.put(48 + address);
+        return put(text, from, 48 + address);
     }
-    let tens = text.put(48 + address / 10);
-    tens.put(48 + address % 10)
+    let ones = put(text, from, 48 + address % 10);
+    put(text, ones, 48 + address / 10)
 }
 
 // The body's sign, and its data or `-`.
-fn put_body(text: Text, body: Body) -> Text
-    ensures { λ r. ⌜ r ≡ puts text (kindAndData body) ⌝ }
+fn put_body(text: &mut [u8], from: usize, body: Body) -> usize
+    requires { ⌜ Room 7 from (now text) ⌝ }
+    ensures { λ r. ⌜ Before 7 (kindAndData body) from (now (text .entry)) r (now (text .exit)) ⌝ }
 {
     match body {
-        Body::Status => text.put_all(b"? -"),
-        Body::Query => text.put_all(b"? -"),
-        Body::Up => text.put_all(b"+ -"),
-        Body::Down => text.put_all(b"- -"),
+        Body::Status => put_all(text, from, b"? -"),
+        Body::Query => put_all(text, from, b"? -"),
+        Body::Up => put_all(text, from, b"+ -"),
+        Body::Down => put_all(text, from, b"- -"),
         Body::Set { number, decimals } => {
             let digits = number::write_data(number, decimals);
-            text.put_all(b"# ").put_all(&digits)
+            let data = put_all(text, from, &digits);
+            put_all(text, data, b"# ")
         }
-        Body::Store => text.put_all(b"I -"),
+        Body::Store => put_all(text, from, b"I -"),
     }
 }
 
-// The line of a message whose `*` stands at a position.
-fn text_of(at: u64, message: Message) -> Text
-    ensures { λ r. ⌜ held r ≡ line at message ⌝ }
+// What a line has behind its card: the identifier, the body and the line's end.
+fn put_request(text: &mut [u8], from: usize, message: Message) -> usize
+    requires { ⌜ Room 11 from (now text) ⌝ }
+    ensures { λ r. ⌜ Before 11 (32 ∷ message .identifier ∷ 32 ∷ (kindAndData (message .body) ++ chars "\n")) from (now (text .entry)) r (now (text .exit)) ⌝ }
 {
-    let position = put_decimal(Text::new(), at);
-    let letter = position.put(b' ').put(message.letter);
-    let card = put_address(letter, message.address);
-    let identifier = card.put(b' ').put(message.identifier).put(b' ');
     let body = message.body;
-    put_body(identifier, body).put(b'\n')
+    let feed = put(text, from, b'\n');
+    let kind = put_body(text, feed, body);
+    let space = put(text, kind, b' ');
+    let identifier = put(text, space, message.identifier);
+    put(text, identifier, b' ')
+}
+
+// The line of a message whose `*` stands at a position.
+fn put_line(text: &mut [u8], at: u64, message: Message) -> usize
+    requires { ⌜ longest ≤ length (now text) ⌝ }
+    ensures { λ r. ⌜ Holds (line at message) r (now (text .exit)) ⌝ }
+{
+    let request = put_request(text, text.len(), message);
+    let address = put_address(text, request, message.address);
+    let letter = put(text, address, message.letter);
+    let space = put(text, letter, b' ');
+    put_decimal(text, space, at)
+}
+
+// A text at the front of a buffer.
+fn write(text: &[u8], out: &mut [u8]) -> Written
+    ensures answers { λ r. ⌜ outcomeOf r ≡ writes (now (text .entry)) (now (out .entry)) .outcome ⌝ }
+    ensures leaves { λ r. ⌜ now (out .exit) ≡ writes (now (text .entry)) (now (out .entry)) .buffer ⌝ }
+{
+    if wire::place(text, out, 0) {
+        Written::Wrote(text.len())
+    } else {
+        Written::Refused(Refusal::RoomTooShort)
+    }
 }
 
 // The line of a message at the front of a buffer.
@@ -207,18 +191,30 @@ pub fn line(at: u64, message: Message, out: &mut [u8]) -> Written
     if !message::is_message(message) {
         return Written::Refused(Refusal::NotMessage);
     }
-    text_of(at, message).write(out)
+    let mut text = [0u8; LONGEST];
+    let from = put_line(&mut text, at, message);
+    write(&text[from..], out)
+}
+
+// A word of four characters, a number and the line's end.
+fn put_numbered(text: &mut [u8], word: &[u8; 4], n: u64) -> usize
+    requires { ⌜ longest ≤ length (now text) ⌝ }
+    ensures { λ r. ⌜ Holds (now (word .entry) ++ (decimal n ++ chars "\n")) r (now (text .exit)) ⌝ }
+{
+    let feed = put(text, text.len(), b'\n');
+    let number = put_decimal(text, feed, n);
+    put_all(text, number, word)
 }
 
 // The last line.
-fn last_text(ending: Ending) -> Text
-    ensures { λ r. ⌜ held r ≡ lastLine ending ⌝ }
+fn put_last(text: &mut [u8], ending: Ending) -> usize
+    requires { ⌜ longest ≤ length (now text) ⌝ }
+    ensures { λ r. ⌜ Holds (lastLine ending) r (now (text .exit)) ⌝ }
 {
-    let text = Text::new();
     match ending {
-        Ending::End(count) => put_decimal(text.put_all(b"END "), count).put(b'\n'),
-        Ending::Bad(at) => put_decimal(text.put_all(b"BAD "), at).put(b'\n'),
-        Ending::Odd => text.put_all(b"ODD\n"),
+        Ending::End(count) => put_numbered(text, b"END ", count),
+        Ending::Bad(at) => put_numbered(text, b"BAD ", at),
+        Ending::Odd => put_all(text, text.len(), b"ODD\n"),
     }
 }
 
@@ -227,7 +223,9 @@ pub fn last(ending: Ending, out: &mut [u8]) -> Written
     ensures answers { λ r. ⌜ outcomeOf r ≡ writes (lastLine ending) (now (out .entry)) .outcome ⌝ }
     ensures leaves { λ r. ⌜ now (out .exit) ≡ writes (lastLine ending) (now (out .entry)) .buffer ⌝ }
 {
-    last_text(ending).write(out)
+    let mut text = [0u8; LONGEST];
+    let from = put_last(&mut text, ending);
+    write(&text[from..], out)
 }
 
 // Two bytes are a word, low byte first.
@@ -268,11 +266,12 @@ fn take_word(progress: Progress, word: u16, out: &mut [u8], written: usize) -> S
         };
         return step_of(progress, written, true);
     };
-    let text = text_of(at, m);
-    if !text.place(out, written) {
+    let mut text = [0u8; LONGEST];
+    let from = put_line(&mut text, at, m);
+    if !wire::place(&text[from..], out, written) {
         return step_of(progress, written, false);
     }
-    let end = written + text.count();
+    let end = written + (LONGEST - from);
     let more = std::num::wrapping_add_u64(count, 1);
     let progress = Progress {
         pending,

@@ -1,9 +1,9 @@
 -- `listing::put_address` meets its contract: one digit or two, by the definition's test. Assumes nothing.
-use mathlib.Core.Path.{sym, _∙_}
 use borrow.Author.Tests.{le-leb, lt-leb}
+use lib.Dec.{lit≤}
 use Rattle.number.specs.Data.{digit}
 use Rattle.message.specs.Spell.{spellAddress}
-use Rattle.listing.specs.Text.{put, puts}
+use Rattle.listing.proofs.Texts.{as-before, both-before}
 use borrow.Author.Needs.{needs}
 use Rattle.listing.proofs.put_address.Statement.{statement}
 use Rattle.listing.proofs.put_address.Tie as tie
@@ -14,9 +14,12 @@ add-put c = search needs
 put-requires : tie.Need-put-requires
 put-requires c κs = search needs
 
+same-length : tie.Need-same-length
+same-length c = search needs
+
 returns : tie.Need-returns
-unfolding spellAddress puts digit
-returns c = c .put .ensures ∙ sym (rw (le-leb _ _ (c .before .if1 .taken)))
+unfolding spellAddress digit
+returns c = as-before (c .before .before .put .ensures) 2 _ (rw (le-leb _ _ (c .before .before .before .before .if1 .taken))) (lit≤ tt)
 
 add-put-2 : tie.Need-add-put-2
 add-put-2 c = search needs
@@ -30,9 +33,12 @@ add-put-3 c = search needs
 put-requires-3 : tie.Need-put-requires-3
 put-requires-3 c κs = search needs
 
+same-length-2 : tie.Need-same-length-2
+same-length-2 c = search needs
+
 returns-2 : tie.Need-returns-2
-unfolding spellAddress puts digit
-returns-2 c = c .put3 .ensures ∙ sym (rw (lt-leb _ _ (c .before .before .if1 .left)) (rw (c .before .put2 .ensures)))
+unfolding spellAddress digit
+returns-2 c = as-before (both-before (c .before .before .before .before .before .before .put2 .ensures) (c .before .before .put3 .ensures)) 2 _ (rw (lt-leb _ _ (c .before .before .before .before .before .before .before .before .if1 .left))) (lit≤ tt)
 
 pub put-address-spec : {M : Type 1} → statement M
 put-address-spec =
@@ -40,9 +46,11 @@ put-address-spec =
     (tie.spec
     add-put
     put-requires
+    same-length
     returns
     add-put-2
     put-requires-2
     add-put-3
     put-requires-3
+    same-length-2
     returns-2)

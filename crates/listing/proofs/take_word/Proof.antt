@@ -1,15 +1,14 @@
 -- `listing::take_word` meets its contract: a word that has heard nothing adds nothing, and of one that has heard a message the text
--- holds the line, which is placed where it fits. Assumes nothing.
-use mathlib.Core.Path.{_≡_, sym, ap, _∙_}
-use mathlib.Core.Bool.{true}
-use Prim.Native.Nat.{ℕ, _+_}
+-- is the line, which is placed where it fits. Assumes nothing.
+use mathlib.Core.Path.{sym, ap, _∙_}
+use Prim.Native.Nat.{ℕ, _+_, _-_}
 use native.Mathlib.Omega.{arith}
-use borrow.Author.Tests.{not-true, not-false, leb-true}
-use lib.ListN.{length}
-use Rattle.wire.specs.Line.{fitsAt}
-use Rattle.listing.specs.Text.{held}
+use borrow.Author.Tests.{not-true, not-false}
+use borrow.Rule.Slice.PartMut.{mid-len}
+use Rattle.listing.specs.Text.{longest}
 use Rattle.listing.specs.Listing.{next}
 use Rattle.listing.proofs.Loops.{step-unheard, step-heard, step-full}
+use Rattle.listing.proofs.Texts.{part-holds}
 use borrow.Author.Needs.{needs}
 use Rattle.listing.proofs.take_word.Statement.{statement}
 use Rattle.listing.proofs.take_word.Tie as tie
@@ -38,8 +37,20 @@ returns c =
     let r = step-unheard (s .args .progress) (s .args .word) (s .args .written) (s .args .out .now) (h .hear .result) (h .hear .ensures) (n .wrapping-add-u64 .result) (n .wrapping-add-u64 .ensures) (c .before .enum-told .given .1) (s .pre) in
     (c .step-of .ensures ∙ r .0, r .1)
 
-text-of-requires : tie.Need-text-of-requires
-text-of-requires c κs = search needs
+slice-aggregate-put-line : tie.Need-slice-aggregate-put-line
+slice-aggregate-put-line c = search needs
+
+put-line-requires : tie.Need-put-line-requires
+put-line-requires c κs = search needs
+
+sub-place : tie.Need-sub-place
+sub-place c = search needs
+
+part-place-start : tie.Need-part-place-start
+part-place-start c = search needs
+
+part-place-end : tie.Need-part-place-end
+part-place-end c = search needs
 
 place-requires : tie.Need-place-requires
 place-requires c κs = search needs
@@ -54,26 +65,22 @@ returns-2 : tie.Need-returns-2
 unfolding next
 returns-2 c =
     let p = c .before .before .before .before in
-    let t = p .before .before in
-    let m = t .before .before in
+    let t = p .before .before .before .before .before in
+    let m = t .before .before .before in
     let n = m .before .before in
     let h = n .before .before in
     let s = h .before .before .before in
+    let q = part-holds _ (t .put-line .result) (t .put-line .last .0) longest (t .put-line .kept .0) (t .put-line .ensures) in
     let r =
     step-full (s .args .progress) (s .args .word) (s .args .written) (s .args .out .now) (h .hear .result) (h .hear .ensures) (n .wrapping-add-u64 .result) (n .wrapping-add-u64 .ensures)
-    (m .message .given .0 .0) (m .message .given .1) (held (t .text-of .result)) (t .text-of .ensures) (p .place .last .1 .0) (sym (p .place .ensures .0) ∙ not-true _ (c .before .if1 .taken)) (p .place .ensures .1) in
+    (m .message .given .0 .0) (m .message .given .1) _ q (p .place .last .1 .0) (sym (p .place .ensures .0) ∙ not-true _ (c .before .if1 .taken)) (p .place .ensures .1) in
     (c .step-of2 .ensures ∙ r .0, r .1)
 
-count-requires : tie.Need-count-requires
-count-requires c κs = search needs
+sub-end : tie.Need-sub-end
+sub-end c = search needs
 
 add-end : tie.Need-add-end
-unfolding fitsAt
-add-end c =
-    let p = c .before .before .before .before in
-    let s = p .before .before .before .before .before .before .before .before .before .before .before in
-    let f : fitsAt (held (p .before .before .text-of .result)) (s .args .written) (s .args .out .now) ≡ true = sym (p .place .ensures .0) ∙ not-false _ (c .before .if1 .left) in
-    omega (arith, c .count .ensures, leb-true (s .args .written + length (held (p .before .before .text-of .result))) (length (s .args .out .now)) f)
+add-end c = search needs
 
 wrapping-add-u64-requires-2 : tie.Need-wrapping-add-u64-requires-2
 wrapping-add-u64-requires-2 c κs = search needs
@@ -88,16 +95,17 @@ returns-3 : tie.Need-returns-3
 unfolding next
 returns-3 c =
     let w = c .before in
-    let p = c .before .before .before .before .before .before in
-    let t = p .before .before in
-    let m = t .before .before in
+    let p = c .before .before .before .before .before in
+    let t = p .before .before .before .before .before in
+    let m = t .before .before .before in
     let n = m .before .before in
     let h = n .before .before in
     let s = h .before .before .before in
+    let q = part-holds _ (t .put-line .result) (t .put-line .last .0) longest (t .put-line .kept .0) (t .put-line .ensures) in
     let r =
     step-heard (s .args .progress) (s .args .word) (s .args .written) (s .args .out .now) (h .hear .result) (h .hear .ensures) (n .wrapping-add-u64 .result) (n .wrapping-add-u64 .ensures)
-    (m .message .given .0 .0) (m .message .given .1) (held (t .text-of .result)) (t .text-of .ensures) (w .wrapping-add-u642 .result) (s .args .written + w .before .count .result) (p .place .last .1 .0)
-    (w .wrapping-add-u642 .ensures) (ap (λ (k : ℕ). s .args .written + k) (w .before .count .ensures)) (sym (p .place .ensures .0) ∙ not-false _ (w .before .before .if1 .left)) (p .place .ensures .1) in
+    (m .message .given .0 .0) (m .message .given .1) _ q (w .wrapping-add-u642 .result) (s .args .written + (longest - t .put-line .result)) (p .place .last .1 .0)
+    (w .wrapping-add-u642 .ensures) (ap (λ (k : ℕ). s .args .written + k) (sym (mid-len (t .put-line .result) longest (t .put-line .last .0) (omega (arith, t .put-line .kept .0))))) (sym (p .place .ensures .0) ∙ not-false _ (w .before .if1 .left)) (p .place .ensures .1) in
     (c .step-of3 .ensures ∙ r .0, r .1)
 
 pub take-word-spec : {M : Type 1} → statement M
@@ -110,12 +118,16 @@ take-word-spec =
     enum-told
     step-of-requires
     returns
-    text-of-requires
+    slice-aggregate-put-line
+    put-line-requires
+    sub-place
+    part-place-start
+    part-place-end
     place-requires
     step-of-requires-2
     same-length
     returns-2
-    count-requires
+    sub-end
     add-end
     wrapping-add-u64-requires-2
     step-of-requires-3

@@ -1,0 +1,23 @@
+-- `listing::put_all` meets its contract: the characters are placed just before the text, where there is room. Assumes nothing.
+use Rattle.listing.proofs.Texts.{all-before}
+use borrow.Author.Needs.{needs}
+use Rattle.listing.proofs.put_all.Statement.{statement}
+use Rattle.listing.proofs.put_all.Tie as tie
+
+sub-at : tie.Need-sub-at
+sub-at c = search needs
+
+place-requires : tie.Need-place-requires
+place-requires c κs = search needs
+
+same-length : tie.Need-same-length
+same-length c = search needs
+
+returns : tie.Need-returns
+returns c =
+    let p = c .before .before .place in
+    let s = c .before .before .before .before .before .before in
+    all-before (s .args .text .now) (s .args .from) (s .args .characters .now) (s .pre) (p .last .1 .0) (p .ensures .1)
+
+pub put-all-spec : {M : Type 1} → statement M
+put-all-spec = tie.close (tie.spec sub-at place-requires same-length returns)
