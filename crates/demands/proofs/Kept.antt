@@ -27,6 +27,7 @@ use Rattle.message.proofs.Messages.{plain-letter}
 use Rattle.hearing.specs.declared.Pending.{Pending}
 use Rattle.hearing.specs.declared.Action.{Action}
 use Rattle.hearing.specs.declared.Action.the-variants.{Ignore, Open, Add, Close, Drop}
+use Rattle.hearing.proofs.Sound.{hear-sound}
 use Rattle.hearing.specs.Hearing.{most, none, added, opening, continuing, actionOf, perform, hear}
 use Rattle.hearing.specs.Sound.{plainChar, plain, zeros, soundPending}
 use Rattle.sheet.specs.declared.Row.{Row}
@@ -49,86 +50,6 @@ use Rattle.card.specs.Turn.{effectOf, turned, turn, stored}
 use Rattle.card.specs.Sound.{soundCard, offerable, soundOffer}
 use Rattle.demands.specs.Terms.{Sound}
 use Rattle.demands.specs.Demand2.{StaysSound}
-
--- ---- the open message
-
-every-set : (f : ℕ → Bool) (xs : List ℕ) (n x : ℕ) → every f (take n xs) ≡ true → f x ≡ true → every f (take (suc n) (set xs n x)) ≡ true
-unfolding every
-every-set f [] n x e h = refl
-every-set f (y ∷ ys) zero x e h = rw h
-every-set f (y ∷ ys) (suc n) x e h =
-    and-both (and-left (f y) (every f (take n ys)) e) (every-set f ys n x (and-right (f y) (every f (take n ys)) e) h)
-
-every-drop : (f : ℕ → Bool) (xs : List ℕ) (n : ℕ) → every f (drop n xs) ≡ true → every f (drop (suc n) xs) ≡ true
-unfolding every
-every-drop f [] n e = refl
-every-drop f (y ∷ ys) zero e = and-right (f y) (every f ys) e
-every-drop f (y ∷ ys) (suc n) e = every-drop f ys n e
-
-pub record PendingParts (p : Pending) : Type 0 where
-  pub short : p .len ≤ most
-  pub is-plain : every plainChar (take (p .len) (p .chars)) ≡ true
-  pub is-zero : every (λ (c : ℕ). eqb c 0) (drop (p .len) (p .chars)) ≡ true
-  pub first : (eqb (p .len) 0 || isLetter (getD (p .chars) 0 0)) ≡ true
-
-pub pending-parts : (p : Pending) → soundPending p ≡ true → PendingParts p
-unfolding soundPending plain zeros
-pending-parts p e = record { short = leb-true (p .len) most (search ands); is-plain = search ands; is-zero = search ands; first = search ands }
-
-pub parts-pending : (p : Pending) → PendingParts p → soundPending p ≡ true
-unfolding soundPending plain zeros
-parts-pending p q = and-both (and-both (le-leb (p .len) most (q .short)) (and-both (q .is-plain) (q .is-zero))) (q .first)
-
-none-sound : soundPending none ≡ true
-unfolding soundPending plain zeros every none
-none-sound = refl
-
-opened-sound : (x : ℕ) → isLetter x ≡ true → soundPending (added none x) ≡ true
-unfolding soundPending plain zeros every plainChar none added
-opened-sound x e = let q = plain-letter x e in rw (lt-ltb x 128 (q .small), q .no-star, e)
-
-added-sound : (p : Pending) (x : ℕ) → (p .len ≡ 0 → ⊥) → plainChar x ≡ true → PendingParts p → soundPending (added p x) ≡ true
-unfolding added
-added-sound p x o c q =
-    choice (λ (y : Pending). soundPending y ≡ true) (ltb (p .len) most)
-    (λ t. parts-pending (record { chars = set (p .chars) (p .len) x; len = p .len + 1 }) (record {
-      short = omega (arith, ltb-true (p .len) most t);
-      is-plain = rw (add-one (p .len)) (every-set plainChar (p .chars) (p .len) x (q .is-plain) c);
-      is-zero = rw (add-one (p .len), drop-set-lt (suc (p .len)) (p .chars) (p .len) x (omega arith)) (every-drop (λ (c : ℕ). eqb c 0) (p .chars) (p .len) (q .is-zero));
-      first = rw (ne-eqb (p .len + 1) 0 (λ e. omega arith), getD-set-other (p .chars) (p .len) 0 x 0 (λ e. o (sym e))) (rw (ne-eqb (p .len) 0 o) at (q .first));
-    }))
-    (λ t. none-sound)
-
--- a character that was received has seven bits
-received-small : (w c : ℕ) → received w ≡ Character c → c < 128
-unfolding received
-received-small w c =
-    choice (λ (r : Received). r ≡ Character c → c < 128) (ltb w 256 && evenParity w)
-    (λ t e. omega (arith, same e)) (λ t e. absurd (never e))
-  where
-    same : {n : ℕ} → Character n ≡ Character c → n ≡ c
-    same e = cc
-
-    never : Nothing ≡ Character c → ⊥
-    never e = let z : _≡_ {A = ℕ} 0 1 = cc in omega arith
-
-opens-sound : (p : Pending) (r : Received) → soundPending p ≡ true → soundPending (perform p (opening r) .pending) ≡ true
-unfolding opening perform
-opens-sound p (Character c) e = choice (λ (a : Action). soundPending (perform p a .pending) ≡ true) (isLetter c) (λ t. opened-sound c t) (λ t. e)
-opens-sound p Nothing e = e
-
-goes-sound : (p : Pending) (r : Received) → ((c : ℕ) → r ≡ Character c → c < 128) → (p .len ≡ 0 → ⊥) → soundPending p ≡ true → soundPending (perform p (continuing r) .pending) ≡ true
-unfolding continuing perform plainChar
-goes-sound p (Character c) f o e =
-    choice (λ (a : Action). soundPending (perform p a .pending) ≡ true) (eqb c star) (λ t. none-sound)
-    (λ t. added-sound p c o (and-both (lt-ltb c 128 (f c refl)) (is-not t)) (pending-parts p e))
-goes-sound p Nothing f o e = none-sound
-
-pub hear-sound : (p : Pending) (w : ℕ) → soundPending p ≡ true → soundPending (hear p w .pending) ≡ true
-unfolding hear actionOf
-hear-sound p w e =
-    choice (λ (a : Action). soundPending (perform p a .pending) ≡ true) (eqb (p .len) 0)
-    (λ t. opens-sound p (received w) e) (λ t. goes-sound p (received w) (received-small w) (eqb-false (p .len) 0 t) e)
 
 -- ---- the offer and the values
 

@@ -34,7 +34,7 @@ use Rattle.hearing.specs.declared.Pending.{Pending}
 use Rattle.hearing.specs.declared.Hearing.{Hearing}
 use Rattle.hearing.specs.Hearing.{most, openOf, hear}
 use Rattle.hearing.specs.Sound.{plainChar, plain, zeros, soundPending}
-use Rattle.hearing.proofs.Heard.{hear-star}
+use Rattle.hearing.proofs.Sound.{pendingOf, spelled-sound, spelled-closed}
 use Rattle.sheet.specs.declared.Row.{Row}
 use Rattle.sheet.specs.declared.Entry.the-variants.{Found, Missing}
 use Rattle.sheet.specs.Sheet.{rows, soundRow, soundRows, soundSheet}
@@ -61,37 +61,6 @@ use Rattle.demands.specs.Terms.{saidTo}
 use Rattle.demands.specs.Demand2.{Drawn, ReaderExact}
 use Rattle.demands.proofs.Answers.{said-bytes, reply-read}
 
--- ---- an open message
-
--- these characters, and zeros behind them
-abbrev pendingOf : List ℕ → Pending
-pendingOf cs = record { chars = cs ++ drop (length cs) (replicate most 0); len = length cs }
-
-all-plain : (cs : List ℕ) → Plain cs → plain cs ≡ true
-unfolding plain every plainChar
-all-plain [] h = refl
-all-plain (c ∷ cs) h = and-both (and-both (lt-ltb c 128 (h .0 .small)) (is-not (h .0 .no-star))) (all-plain cs (h .1))
-
-no-more : (n k : ℕ) → zeros (drop n (replicate k 0)) ≡ true
-unfolding zeros every
-no-more zero zero = refl
-no-more zero (suc k) = no-more zero k
-no-more (suc n) zero = refl
-no-more (suc n) (suc k) = no-more n k
-
-open-is : (cs : List ℕ) → openOf (pendingOf cs) ≡ cs
-unfolding openOf
-open-is cs = take-append-seam cs (drop (length cs) (replicate most 0))
-
-pending-sound : (c : ℕ) (cs : List ℕ) → isLetter c ≡ true → Plain cs → length (c ∷ cs) ≤ most → soundPending (pendingOf (c ∷ cs)) ≡ true
-unfolding soundPending
-pending-sound c cs e p h =
-    let ds = c ∷ cs in
-    let behind : List ℕ = drop (length ds) (replicate most 0) in
-    and-both (and-both (le-leb (length ds) most h)
-    (and-both (ap plain (take-append-seam ds behind) ∙ all-plain ds (plain-letter c e, p)) (ap zeros (drop-append-seam ds behind) ∙ no-more (length ds) most)))
-    (rw (ne-eqb (length ds) 0 (λ z. omega arith)) e)
-
 -- ---- the card that a message is for, with it open
 
 module _ (m : Message) (e : isMessage m ≡ true) where
@@ -99,21 +68,15 @@ module _ (m : Message) (e : isMessage m ≡ true) where
   cardFor = record { letter = m .letter; address = m .address; pending = pendingOf (spellOpen m); offer = Nothing }
 
   for-sound : soundCard cardFor ≡ true
-  unfolding soundCard cardFor spellOpen
-  for-sound =
-      let p = parts m e in
-      and-both (and-both (p .is-letter) (p .is-address)) (pending-sound (m .letter) (spellAddress (m .address) ++ (m .identifier ∷ spellBody (m .body))) (p .is-letter) (plain-rest m p) (open-length m))
-
-  hears : hear (pendingOf (spellOpen m)) (withParity star) .message ≡ Heard m
-  unfolding spellOpen
-  hears = ap (λ (h : Hearing). h .message) (hear-star (pendingOf (spellOpen m)) (omega arith)) ∙ ap parse (open-is (spellOpen m)) ∙ parse-spell m e
+  unfolding soundCard cardFor
+  for-sound = let p = parts m e in and-both (and-both (p .is-letter) (p .is-address)) (spelled-sound m e)
 
   module _ (bench maker values : List ℤ) (a : Answer) where
     says-to : serve m (entryIn bench maker (m .identifier)) Nothing (getD values (m .identifier) (pos 0)) (m .body) .said ≡ Reply a
         → saidTo bench maker cardFor values (withParity star) ≡ Reply a
     unfolding saidTo effectOf cardFor act
     says-to g =
-        ap (λ (x : Parsed). effectOf bench maker cardFor values x .said) hears
+        ap (λ (x : Parsed). effectOf bench maker cardFor values x .said) (spelled-closed m e)
         ∙ rw (eq-eqb (m .letter) (m .letter) refl, eq-eqb (m .address) (m .address) refl) g
 
     drawn : soundSheet bench ≡ true → soundSheet maker ≡ true → soundValues bench maker values ≡ true

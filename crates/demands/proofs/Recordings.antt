@@ -1,29 +1,19 @@
 -- Demand 3, as one claim over whole recordings: the hearing half is hearing's own theorems, and the playing half follows from them,
 -- since a run with room for every reply obeys the messages heard. Assumes nothing.
 use mathlib.Core.Path.{_≡_, refl, sym, ap, _∙_, subst}
-use mathlib.Core.Bool.{Bool, true, false, cond, _&&_}
-use mathlib.Core.List.{List, [], _∷_, _++_}
-use Prim.Native.Nat.{ℕ, _≤_, _<_}
+use mathlib.Core.Bool.{true}
+use mathlib.Core.List.{List}
+use Prim.Native.Nat.{ℕ, _≤_}
 use native.Mathlib.Omega.{arith}
-use borrow.Author.Tests.{le-leb}
-use lib.Dec.{leb}
 use lib.IntN.{ℤ}
 use lib.ListN.{length, take}
-use Rattle.refusal.specs.Refusal.{Outcome, refused, gave}
-use Rattle.refusal.specs.Call.{Call, laid, writes}
-use Rattle.refusal.proofs.Logic.{and-left, and-right, and-both, choice}
+use Rattle.refusal.specs.Refusal.{gave}
+use Rattle.refusal.specs.Call.{laid}
 use Rattle.refusal.proofs.Calls.{laid-front}
-use Rattle.wire.specs.Word.{withParity, travelling, every, validWords}
-use Rattle.wire.proofs.Words.{written-byte}
-use Rattle.message.specs.declared.Message.{Message}
-use Rattle.message.specs.Message.{isMessage}
-use Rattle.message.specs.Spell.{spell}
-use Rattle.message.proofs.Messages.{parts}
-use Rattle.message.proofs.Spelling.{spell-small, Small}
-use Rattle.hearing.specs.Hearing.{none, heard}
-use Rattle.hearing.specs.Normal.{wordsOf, normal, normalCall}
-use Rattle.hearing.proofs.Heard.{Messages}
-use Rattle.hearing.proofs.Normal.{heard-normal, normal-normal, normal-same, heard-written}
+use Rattle.wire.specs.Word.{validWords}
+use Rattle.hearing.specs.Hearing.{none}
+use Rattle.hearing.specs.Normal.{normal}
+use Rattle.hearing.proofs.Normal.{heard-normal, normal-normal, normal-same, normal-valid, normal-written}
 use Rattle.card.specs.declared.Card.{Card}
 use Rattle.card.specs.declared.Verdict.the-variants as verdict
 use Rattle.card.specs.Turn.{Played, play}
@@ -33,41 +23,6 @@ use Rattle.card.proofs.Steps.{all-sound, run-served}
 use Rattle.demands.specs.Terms.{Sound, replies}
 use Rattle.demands.specs.Demand3.{PlayedAlike, Demand3}
 use Rattle.demands.proofs.Played.{Left, leftBy, all, all-bytes, all-taken, run-all, left-alike}
-
--- ---- the normal form is a recording
-
-every-append : (f : ℕ → Bool) (xs ys : List ℕ) → every f xs ≡ true → every f ys ≡ true → every f (xs ++ ys) ≡ true
-unfolding every
-every-append f [] ys p q = q
-every-append f (x ∷ xs) ys p q = and-both (and-left (f x) (every f xs) p) (every-append f xs ys (and-right (f x) (every f xs) p) q)
-
-travelling-valid : (cs : List ℕ) → Small cs → every (λ (w : ℕ). leb w 256) (travelling cs) ≡ true
-unfolding every travelling
-travelling-valid [] h = refl
-travelling-valid (c ∷ cs) h = and-both (le-leb (withParity c) 256 (omega (arith, written-byte c (omega arith)))) (travelling-valid cs (h .1))
-
-words-valid : (ms : List Message) → Messages ms → every (λ (w : ℕ). leb w 256) (wordsOf ms) ≡ true
-unfolding wordsOf
-words-valid [] h = unfold every in refl
-words-valid (m ∷ ms) h = every-append (λ (w : ℕ). leb w 256) (travelling (spell m)) (wordsOf ms) (travelling-valid (spell m) (spell-small m (parts m (h .0)))) (words-valid ms (h .1))
-
-pub normal-valid : (ws : List ℕ) → validWords (normal ws) ≡ true
-unfolding validWords normal
-normal-valid ws = words-valid (heard ws) (heard-written ws)
-
--- ---- what the call writes
-
-normal-written : (ws out : List ℕ) (n : ℕ) → normalCall ws out .outcome ≡ gave n → take n (normalCall ws out .buffer) ≡ normal ws
-unfolding normalCall writes
-normal-written ws out n =
-    choice (λ (c : Call). c .outcome ≡ gave n → take n (c .buffer) ≡ normal ws) (validWords ws)
-    (λ t. choice (λ (c : Call). c .outcome ≡ gave n → take n (c .buffer) ≡ normal ws) (leb (length (normal ws)) (length out))
-    (λ u e. let k : n ≡ length (normal ws) = cc in ap (λ (j : ℕ). take j (laid (normal ws) out)) k ∙ laid-front (normal ws) out)
-    (λ u e. absurd (never e)))
-    (λ t e. absurd (never e))
-  where
-    never : {k : ℕ} → refused k ≡ gave n → ⊥
-    never e = let z : _≡_ {A = ℕ} 0 1 = cc in omega arith
 
 -- ---- a run with room for every reply
 

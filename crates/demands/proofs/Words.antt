@@ -12,8 +12,8 @@ use lib.ListN.{length, take}
 use Rattle.refusal.specs.Refusal.{gave}
 use Rattle.refusal.specs.Call.{laid}
 use Rattle.refusal.proofs.Calls.{laid-front}
-use Rattle.wire.specs.Word.{every, validWords}
 use Rattle.wire.specs.Line.{longest, bytesOf}
+use Rattle.wire.proofs.Words.{word-valid}
 use Rattle.hearing.proofs.Normal.{writer-heard}
 use Rattle.card.specs.declared.Card.{Card}
 use Rattle.card.specs.declared.Turn.{Turn}
@@ -29,15 +29,11 @@ writers-heard = record {
   none-open = λ m out n e. writer-heard m out n e .1;
 }
 
-one-valid : (w : ℕ) → w ≤ 256 → validWords (w ∷ []) ≡ true
-unfolding validWords every
-one-valid w h = rw (le-leb w 256 h)
-
 module _ (bench maker : List ℤ) (c : Card) (values : List ℤ) (s : Sound bench maker c values) where
   -- a single word that is served
   pub taken : (w : ℕ) (out : List ℕ) → w ≤ 256 → longest ≤ length out → stepCall c bench maker values w out ≡ stepTaken (turn bench maker c values w) values out
   taken w out v h =
-      step-served c bench maker values w out (all-sound c bench maker values (w ∷ []) (s .card-sound) (s .sheets-sound) (s .offer-sound) (s .values-sound) (one-valid w v))
+      step-served c bench maker values w out (all-sound c bench maker values (w ∷ []) (s .card-sound) (s .sheets-sound) (s .offer-sound) (s .values-sound) (word-valid w v))
       ∙ step-long (turn bench maker c values w) c values out h
 
 play-word : (bench maker : List ℤ) (c : Card) (values : List ℤ) (room w : ℕ) (ws : List ℕ)

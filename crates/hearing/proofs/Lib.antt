@@ -1,3 +1,4 @@
 pub mod Heard
+pub mod Sound
 pub mod Normal
 pub mod Loops
