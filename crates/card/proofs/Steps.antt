@@ -6,6 +6,8 @@ use Prim.Native.Nat.{ℕ, _<_, _≤_}
 use borrow.Author.Tests.{lt-ltb, le-ltb}
 use lib.IntN.{ℤ}
 use lib.ListN.{length}
+use Rattle.refusal.specs.Refusal.{gave}
+use Rattle.refusal.specs.Call.{laid}
 use Rattle.refusal.specs.declared.Refusal.{Refusal}
 use Rattle.refusal.specs.declared.Refusal.the-variants.{UnsoundCard, UnsoundSheet, UnsoundValues, WordAbove256, RoomTooShort}
 use Rattle.wire.specs.Word.{validWords}
@@ -60,6 +62,11 @@ step-short t c values out h = rw (lt-ltb (length out) longest h)
 pub step-long : (t : Turn) (c : Card) (values : List ℤ) (out : List ℕ) → longest ≤ length out → stepBy Sound t c values out ≡ stepTaken t values out
 unfolding stepBy
 step-long t c values out h = rw (le-ltb (length out) longest h)
+
+pub run-taken : (p : Played) (c : Card) (values : List ℤ) (out : List ℕ)
+    → runBy Sound p c values out ≡ record { card = p .card; outcome = gave (record { words = p .taken; bytes = length (p .bytes) }); values = p .values; buffer = laid (p .bytes) out }
+unfolding runBy
+run-taken p c values out = refl
 
 module _ (c : Card) (bench maker values : List ℤ) (w : ℕ) (out : List ℕ) where
   pub step-refused : (r : Refusal) → verdictOf c bench maker values (w ∷ []) ≡ Refused r → stepCall c bench maker values w out ≡ stepRefused r c values out

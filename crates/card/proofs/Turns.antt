@@ -5,9 +5,9 @@ use Prim.Native.Nat.{ℕ, _≤_}
 use lib.Dec.{lit≤}
 use lib.IntN.{ℤ}
 use lib.ListN.{length}
-use Rattle.wire.specs.Line.{longest, empty, bytesOf}
+use Rattle.wire.specs.Line.{longest, bytesOf}
 use Rattle.wire.proofs.Words.{travelling-length}
-use Rattle.wire.proofs.Lines.{line-bytes}
+use Rattle.wire.proofs.Lines.{empty-bytes, line-bytes}
 use Rattle.reply.specs.Reply.{spellAnswer}
 use Rattle.reply.proofs.Spelled.{answer-length}
 use Rattle.message.specs.declared.Parsed.{Parsed}
@@ -29,14 +29,31 @@ use Rattle.card.specs.Turn.{replyOf, effectOf, withBoth, turned, stays, 
 
 -- document 01: "No reply is longer than 11 bytes."
 pub reply-length : (s : Said) → length (bytesOf (replyOf s)) ≤ longest
-unfolding bytesOf empty
-reply-length Silence = lit≤ tt
+reply-length Silence = rw empty-bytes (lit≤ tt)
 reply-length (Reply a) = subst (λ (n : ℕ). n ≤ longest) (sym (ap length (line-bytes (spellAnswer a)) ∙ travelling-length (spellAnswer a))) (answer-length a)
 
 module _ (bench maker : List ℤ) (c : Card) (values : List ℤ) where
-  pub turn-length : (w : ℕ) → length (bytesOf (turn bench maker c values w .reply)) ≤ longest
-  unfolding turn turned
-  turn-length w = reply-length (effectOf bench maker c values (hear (c .pending) w .message) .said)
+  -- what a word leaves, by what it has closed
+  module _ (w : ℕ) where
+    pub turn-card : turn bench maker c values w .card ≡ withBoth c (hear (c .pending) w .pending) (effectOf bench maker c values (hear (c .pending) w .message) .offer)
+    unfolding turn turned
+    turn-card = refl
+
+    pub turn-reply : turn bench maker c values w .reply ≡ replyOf (effectOf bench maker c values (hear (c .pending) w .message) .said)
+    unfolding turn turned
+    turn-reply = refl
+
+    pub turn-store : turn bench maker c values w .store ≡ effectOf bench maker c values (hear (c .pending) w .message) .store
+    unfolding turn turned
+    turn-store = refl
+
+    pub turn-length : length (bytesOf (turn bench maker c values w .reply)) ≤ longest
+    turn-length = rw turn-reply (reply-length (effectOf bench maker c values (hear (c .pending) w .message) .said))
+
+  -- a message that was heard is acted on
+  pub effect-heard : (m : Message) → effectOf bench maker c values (Heard m) ≡ act bench maker (c .letter) (c .address) (c .offer) values m
+  unfolding effectOf
+  effect-heard m = refl
 
   -- what was closed
   pub closed-unheard : turned c none (effectOf bench maker c values Unheard) ≡ stays (withBoth c none (c .offer))
@@ -44,8 +61,7 @@ module _ (bench maker : List ℤ) (c : Card) (values : List ℤ) where
   closed-unheard = refl
 
   pub closed-heard : (m : Message) → turned c none (effectOf bench maker c values (Heard m)) ≡ turned c none (act bench maker (c .letter) (c .address) (c .offer) values m)
-  unfolding effectOf
-  closed-heard m = refl
+  closed-heard m = ap (turned c none) (effect-heard m)
 
   module _ (w : ℕ) where
     did : (a : Action) → actionOf (c .pending) w ≡ a → turn bench maker c values w ≡ turned c (perform (c .pending) a .pending) (effectOf bench maker c values (perform (c .pending) a .message))

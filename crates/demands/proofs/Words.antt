@@ -20,6 +20,7 @@ use Rattle.card.specs.declared.Turn.{Turn}
 use Rattle.card.specs.Turn.{turn, stored, stopped, after, play, Played}
 use Rattle.card.specs.Calls.{Step, stepTaken, stepCall}
 use Rattle.card.proofs.Steps.{all-sound, step-served, step-long}
+use Rattle.card.proofs.Plays.{play-word}
 use Rattle.demands.specs.Terms.{Sound}
 use Rattle.demands.specs.Demand2.{WriterHeard, RunSteps}
 
@@ -35,14 +36,6 @@ module _ (bench maker : List ℤ) (c : Card) (values : List ℤ) (s : Sound benc
   taken w out v h =
       step-served c bench maker values w out (all-sound c bench maker values (w ∷ []) (s .card-sound) (s .sheets-sound) (s .offer-sound) (s .values-sound) (word-valid w v))
       ∙ step-long (turn bench maker c values w) c values out h
-
-play-word : (bench maker : List ℤ) (c : Card) (values : List ℤ) (room w : ℕ) (ws : List ℕ)
-    → play bench maker c values room (w ∷ ws)
-    ≡ cond (leb (length (bytesOf (turn bench maker c values w .reply))) room)
-    (after (bytesOf (turn bench maker c values w .reply)) (play bench maker (turn bench maker c values w .card) (stored values (turn bench maker c values w .store)) (room - length (bytesOf (turn bench maker c values w .reply))) ws))
-    (stopped c values)
-unfolding play
-play-word bench maker c values room w ws = refl
 
 pub run-steps : RunSteps
 run-steps = record {

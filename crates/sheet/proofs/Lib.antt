@@ -1,5 +1,6 @@
 pub mod Rows
 pub mod Sheets
 pub mod Values
+pub mod OneRow
 pub mod Places
 pub mod Cases
