@@ -37,7 +37,7 @@ use Rattle.act.specs.declared.Offer.the-variants.{Nothing, Held}
 use Rattle.act.specs.declared.Said.the-variants.{Silence, Reply}
 use Rattle.act.specs.declared.Store.the-variants.{Keep, Put}
 use Rattle.act.specs.declared.Effect.{Effect}
-use Rattle.act.specs.Act.{silent, answerTo, says, puts, shownBy, declines, query, moves, up, down, offers, set, decimalsOf, store, serve, act}
+use Rattle.act.specs.Act.{answerTo, says, puts, shownBy, declines, query, moves, up, down, offers, set, decimalsOf, store, serve, act}
 
 -- the row of i allows the value z
 pub record Allowed (bench maker : List ℤ) (i : ℕ) (z : ℤ) : Type 0 where

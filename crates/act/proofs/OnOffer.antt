@@ -1,7 +1,7 @@
 -- What is on offer after a message: only a Type 3 leaves an offer, the cut of its number for its identifier, where the row is not read
 -- only and the number is in range. And such a Type 3 does leave it. Assumes nothing.
-use mathlib.Core.Path.{_≡_, refl, sym, ap, _∙_}
-use mathlib.Core.Bool.{true, false, cond, _&&_}
+use mathlib.Core.Path.{_≡_, refl, ap, _∙_}
+use mathlib.Core.Bool.{true, false, _&&_}
 use mathlib.Core.List.{List}
 use Prim.Native.Nat.{ℕ}
 use native.Mathlib.Omega.{arith}
@@ -26,7 +26,7 @@ use Rattle.act.specs.declared.Offer.{Offer}
 use Rattle.act.specs.declared.Offer.the-variants.{Nothing, Held}
 use Rattle.act.specs.declared.Said.the-variants.{Reply}
 use Rattle.act.specs.declared.Effect.{Effect}
-use Rattle.act.specs.Act.{silent, answerTo, says, puts, shownBy, declines, query, moves, up, down, offers, set, decimalsOf, store, serve, act}
+use Rattle.act.specs.Act.{answerTo, says, puts, shownBy, declines, query, moves, up, down, offers, set, decimalsOf, store, serve, act}
 
 -- the message m leaves the value z on offer for the identifier i
 pub record Leaves (bench maker : List ℤ) (m : Message) (i : ℕ) (z : ℤ) : Type 0 where

@@ -56,14 +56,15 @@ module _ (bench maker : List ℤ) where
       let t : Turn = turn bench maker c values w in
       after (bytesOf (t .reply)) (all (t .card) (stored values (t .store)) ws)
 
-  pub all-end : (c : Card) (values : List ℤ) → all c values [] ≡ stopped c values
+  -- all the replies, one after the other
+  pub no-bytes : (c : Card) (values : List ℤ) → all c values [] .bytes ≡ []
   unfolding all
-  all-end c values = refl
+  no-bytes c values = refl
 
-  pub all-word : (c : Card) (values : List ℤ) (w : ℕ) (ws : List ℕ)
-      → all c values (w ∷ ws) ≡ after (bytesOf (turn bench maker c values w .reply)) (all (turn bench maker c values w .card) (stored values (turn bench maker c values w .store)) ws)
+  pub more-bytes : (c : Card) (values : List ℤ) (w : ℕ) (ws : List ℕ)
+      → all c values (w ∷ ws) .bytes ≡ bytesOf (turn bench maker c values w .reply) ++ all (turn bench maker c values w .card) (stored values (turn bench maker c values w .store)) ws .bytes
   unfolding all
-  all-word c values w ws = refl
+  more-bytes c values w ws = refl
 
   pub all-taken : (c : Card) (values : List ℤ) (ws : List ℕ) → all c values ws .taken ≡ length ws
   unfolding all

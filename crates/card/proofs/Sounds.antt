@@ -1,7 +1,7 @@
 -- What a sound card and a sound offer are, by their parts, and what a word leaves of a sound card with sound values: both are sound
 -- again, no place without a row is touched, and what the card says is an answer as the reader knows them. Assumes nothing.
 use mathlib.Core.Path.{_≡_, refl, sym, ap, _∙_}
-use mathlib.Core.Bool.{true, _&&_, false≢true}
+use mathlib.Core.Bool.{true, false≢true}
 use mathlib.Core.List.{List}
 use Prim.Native.Nat.{ℕ}
 use native.Mathlib.Omega.{arith}

@@ -11,14 +11,14 @@ use Rattle.refusal.specs.Call.{laid}
 use Rattle.refusal.specs.declared.Refusal.{Refusal}
 use Rattle.refusal.specs.declared.Refusal.the-variants.{UnsoundCard, UnsoundSheet, UnsoundValues, WordAbove256, RoomTooShort}
 use Rattle.wire.specs.Word.{validWords}
-use Rattle.wire.specs.Line.{longest}
+use Rattle.wire.specs.Line.{longest, bytesOf}
 use Rattle.sheet.specs.Sheet.{soundSheet}
 use Rattle.sheet.specs.Values.{soundValues}
 use Rattle.card.specs.declared.Card.{Card}
 use Rattle.card.specs.declared.Turn.{Turn}
 use Rattle.card.specs.declared.Verdict.{Verdict}
 use Rattle.card.specs.declared.Verdict.the-variants.{Refused, Sound}
-use Rattle.card.specs.Turn.{turn, Played, play}
+use Rattle.card.specs.Turn.{turn, stored, Played, play}
 use Rattle.card.specs.Sound.{soundCard, soundOffer, verdictOf}
 use Rattle.card.specs.Calls.{Step, stepRefused, stepTaken, stepBy, stepCall, Run, runBy, runCall}
 
@@ -63,10 +63,15 @@ pub step-long : (t : Turn) (c : Card) (values : List ℤ) (out : List ℕ) → l
 unfolding stepBy
 step-long t c values out h = rw (le-ltb (length out) longest h)
 
-pub run-taken : (p : Played) (c : Card) (values : List ℤ) (out : List ℕ)
+-- all that a word or a run leaves, where it is served
+pub step-leaves : (t : Turn) (values : List ℤ) (out : List ℕ)
+    → stepTaken t values out ≡ record { card = t .card; outcome = gave (length (bytesOf (t .reply))); values = stored values (t .store); buffer = laid (bytesOf (t .reply)) out }
+step-leaves t values out = refl
+
+pub run-leaves : (p : Played) (c : Card) (values : List ℤ) (out : List ℕ)
     → runBy Sound p c values out ≡ record { card = p .card; outcome = gave (record { words = p .taken; bytes = length (p .bytes) }); values = p .values; buffer = laid (p .bytes) out }
 unfolding runBy
-run-taken p c values out = refl
+run-leaves p c values out = refl
 
 module _ (c : Card) (bench maker values : List ℤ) (w : ℕ) (out : List ℕ) where
   pub step-refused : (r : Refusal) → verdictOf c bench maker values (w ∷ []) ≡ Refused r → stepCall c bench maker values w out ≡ stepRefused r c values out

@@ -6,8 +6,10 @@ use lib.Dec.{lit≤}
 use lib.IntN.{ℤ}
 use lib.ListN.{length}
 use Rattle.wire.specs.Line.{longest, bytesOf}
+use Rattle.wire.specs.Word.{travelling}
 use Rattle.wire.proofs.Words.{travelling-length}
 use Rattle.wire.proofs.Lines.{empty-bytes, line-bytes}
+use Rattle.reply.specs.declared.Answer.{Answer}
 use Rattle.reply.specs.Reply.{spellAnswer}
 use Rattle.reply.proofs.Spelled.{answer-length}
 use Rattle.message.specs.declared.Parsed.{Parsed}
@@ -39,13 +41,17 @@ module _ (bench maker : List ℤ) (c : Card) (values : List ℤ) where
     unfolding turn turned
     turn-card = refl
 
-    pub turn-reply : turn bench maker c values w .reply ≡ replyOf (effectOf bench maker c values (hear (c .pending) w .message) .said)
+    turn-reply : turn bench maker c values w .reply ≡ replyOf (effectOf bench maker c values (hear (c .pending) w .message) .said)
     unfolding turn turned
     turn-reply = refl
 
     pub turn-store : turn bench maker c values w .store ≡ effectOf bench maker c values (hear (c .pending) w .message) .store
     unfolding turn turned
     turn-store = refl
+
+    -- a reply is the spelling of what is said
+    pub turn-spells : (a : Answer) → effectOf bench maker c values (hear (c .pending) w .message) .said ≡ Reply a → bytesOf (turn bench maker c values w .reply) ≡ travelling (spellAnswer a)
+    turn-spells a e = ap bytesOf (turn-reply ∙ ap replyOf e) ∙ line-bytes (spellAnswer a)
 
     pub turn-length : length (bytesOf (turn bench maker c values w .reply)) ≤ longest
     turn-length = rw turn-reply (reply-length (effectOf bench maker c values (hear (c .pending) w .message) .said))

@@ -6,26 +6,23 @@ use Prim.Native.Nat.{ℕ}
 use lib.IntN.{ℤ}
 use Rattle.wire.specs.Line.{bytesOf}
 use Rattle.wire.specs.Word.{travelling}
-use Rattle.wire.proofs.Lines.{line-bytes}
 use Rattle.reply.specs.declared.Answer.{Answer}
 use Rattle.reply.specs.Reply.{spellAnswer}
 use Rattle.reply.specs.Read.{readCall}
 use Rattle.reply.proofs.Reader.{read-spelled}
-use Rattle.act.specs.declared.Said.{Said}
 use Rattle.act.specs.declared.Said.the-variants.{Reply}
 use Rattle.card.specs.declared.Card.{Card}
-use Rattle.card.specs.Turn.{replyOf, turn}
-use Rattle.card.proofs.Turns.{turn-reply}
+use Rattle.card.specs.Turn.{turn}
+use Rattle.card.proofs.Turns.{turn-spells}
 use Rattle.card.proofs.Sounds.{said-answer}
-use Rattle.demands.specs.Terms.{Sound, saidTo}
+use Rattle.demands.specs.Terms.{saidTo}
 use Rattle.demands.specs.Demand2.{ReplyRead}
 
 -- the bytes are the answer's spelling, whatever the card
 pub said-bytes : (bench maker : List ℤ) (c : Card) (values : List ℤ) (w : ℕ) (a : Answer) → saidTo bench maker c values w ≡ Reply a
     → bytesOf (turn bench maker c values w .reply) ≡ travelling (spellAnswer a)
 unfolding saidTo
-said-bytes bench maker c values w a e =
-    ap bytesOf (turn-reply bench maker c values w) ∙ ap (λ (x : Said). bytesOf (replyOf x)) e ∙ line-bytes (spellAnswer a)
+said-bytes = turn-spells
 
 pub reply-read : ReplyRead
 unfolding saidTo

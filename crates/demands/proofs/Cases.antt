@@ -1,4 +1,5 @@
--- The bench cases, by computing the definitions. Assumes nothing.
+-- The bench cases, by computing: this file alone of demands opens the definitions of every crate, since it computes them.
+-- Assumes nothing.
 use mathlib.Core.Path.{_≡_, refl}
 use mathlib.Core.Bool.{Bool, true, _&&_}
 use mathlib.Core.List.{List, [], _∷_}

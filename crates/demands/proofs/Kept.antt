@@ -1,7 +1,6 @@
 -- A word leaves a sound card with sound values sound, and touches no place without a row: by the card's laws, part by part.
 -- Assumes nothing.
 use Rattle.card.proofs.Sounds.{card-stays, offer-stays, values-stay, places-stay}
-use Rattle.demands.specs.Terms.{Sound}
 use Rattle.demands.specs.Demand2.{StaysSound}
 
 pub stays-sound : StaysSound

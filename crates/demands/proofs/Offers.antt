@@ -1,6 +1,6 @@
 -- What a Type 3 message leaves on offer is sound and not above the number asked for; and a sound offer is left by the message that asks
 -- for its own value, since a multiple of the step is its own cut. Assumes nothing.
-use mathlib.Core.Path.{_≡_, refl, sym, ap, _∙_, subst}
+use mathlib.Core.Path.{_≡_, refl, ap, _∙_, subst}
 use mathlib.Core.Bool.{true}
 use mathlib.Core.List.{List, []}
 use Prim.Native.Nat.{ℕ}
@@ -14,8 +14,6 @@ use Rattle.message.specs.declared.Body.the-variants.{Set}
 use Rattle.message.specs.declared.Message.{Message}
 use Rattle.message.proofs.Messages.{whole, parts-body, letter-is, address-is}
 use Rattle.sheet.specs.declared.Row.{Row}
-use Rattle.sheet.specs.declared.Entry.the-variants.{Found}
-use Rattle.sheet.specs.Values.{entryIn}
 use Rattle.sheet.proofs.Values.{SoundRow, entry-sound, entry-identifier, fits-parts, range-small}
 use Rattle.act.specs.declared.Offer.the-variants.{Nothing, Held}
 use Rattle.act.proofs.OnOffer.{act-leaves, set-leaves}
@@ -86,4 +84,4 @@ module _ (bench maker : List ℤ) (i : ℕ) (z : ℤ) where
       }
 
 pub offer-reachable : OfferReachable
-offer-reachable = record { reachable = λ bench maker i z h. (λ s. offer-left bench maker i z (offer-parts bench maker i z s), left-sound bench maker i z) }
+offer-reachable = record { reachable = λ bench maker i z. (λ s. offer-left bench maker i z (offer-parts bench maker i z s), left-sound bench maker i z) }

@@ -22,8 +22,8 @@ use Rattle.message.specs.declared.Parsed.{Parsed}
 use Rattle.message.specs.Message.{star, question, isLetter, isAddress, isIdentifier, isMessage}
 use Rattle.message.specs.Spell.{spellOpen}
 use Rattle.message.proofs.Messages.{BodyParts, parts, whole, parts-body}
-use Rattle.hearing.proofs.Sound.{pendingOf, spelled-sound, spelled-closed}
-use Rattle.sheet.specs.declared.Row.{Row}
+use Rattle.message.proofs.Spelling.{open-length}
+use Rattle.hearing.proofs.Sound.{pendingOf, pending-holds, spelled-sound, spelled-closed}
 use Rattle.sheet.specs.declared.Entry.the-variants.{Found}
 use Rattle.sheet.specs.Sheet.{soundSheet}
 use Rattle.sheet.specs.Values.{entryIn, soundValues}
@@ -77,6 +77,7 @@ module _ (m : Message) (e : isMessage m ≡ true) (bench maker values : List ℤ
           offer-sound = nothing-sound bench maker;
           values-sound = v;
         };
+        room = pending-holds (spellOpen m) (open-length m) .room;
         valid = rw star-travels (lit≤ tt);
         says = says-so;
         bytes = said-bytes bench maker (cardFor m) values (withParity star) a says-so;

@@ -1,6 +1,6 @@
 -- Demand 3, as one claim over whole recordings: the hearing half is hearing's own theorems, and the playing half follows from them,
 -- since a run with room for every reply obeys the messages heard. Assumes nothing.
-use mathlib.Core.Path.{_≡_, refl, sym, ap, _∙_, subst}
+use mathlib.Core.Path.{_≡_, sym, ap, _∙_}
 use mathlib.Core.Bool.{true}
 use mathlib.Core.List.{List, [], _∷_, _++_}
 use Prim.Native.Nat.{ℕ, _≤_}
@@ -19,9 +19,9 @@ use Rattle.card.specs.declared.Card.{Card}
 use Rattle.card.specs.declared.Verdict.the-variants as verdict
 use Rattle.card.specs.declared.Turn.{Turn}
 use Rattle.card.specs.Turn.{turn, stored, Played}
-use Rattle.card.specs.Calls.{Run, Took, runBy, runCall}
-use Rattle.card.proofs.Steps.{all-sound, run-served, run-taken}
-use Rattle.card.proofs.Plays.{Left, all, all-end, all-word, all-taken, run-all, left-alike}
+use Rattle.card.specs.Calls.{Run, runBy, runCall}
+use Rattle.card.proofs.Steps.{all-sound, run-served, run-leaves}
+use Rattle.card.proofs.Plays.{Left, all, no-bytes, more-bytes, all-taken, run-all, left-alike}
 use Rattle.demands.specs.Terms.{Sound, replies}
 use Rattle.demands.specs.Demand3.{PlayedAlike, Demand3}
 
@@ -29,11 +29,10 @@ use Rattle.demands.specs.Demand3.{PlayedAlike, Demand3}
 
 all-replies : (bench maker : List ℤ) (c : Card) (values : List ℤ) (ws : List ℕ) → all bench maker c values ws .bytes ≡ replies bench maker c values ws
 unfolding replies
-all-replies bench maker c values [] = ap (λ (p : Played). p .bytes) (all-end bench maker c values)
+all-replies bench maker c values [] = no-bytes bench maker c values
 all-replies bench maker c values (w ∷ ws) =
     let t : Turn = turn bench maker c values w in
-    ap (λ (p : Played). p .bytes) (all-word bench maker c values w ws)
-    ∙ ap (λ (l : List ℕ). bytesOf (t .reply) ++ l) (all-replies bench maker (t .card) (stored values (t .store)) ws)
+    more-bytes bench maker c values w ws ∙ ap (λ (l : List ℕ). bytesOf (t .reply) ++ l) (all-replies bench maker (t .card) (stored values (t .store)) ws)
 
 module _ (bench maker : List ℤ) (c : Card) (values : List ℤ) (s : Sound bench maker c values) where
   abbrev ends : List ℕ → Played
@@ -44,7 +43,7 @@ module _ (bench maker : List ℤ) (c : Card) (values : List ℤ) (s : Sound benc
   served ws out v h =
       run-served c bench maker values ws out (all-sound c bench maker values ws (s .card-sound) (s .sheets-sound) (s .offer-sound) (s .values-sound) v)
       ∙ ap (λ (p : Played). runBy verdict.Sound p c values out) (run-all bench maker c values (length out) ws h)
-      ∙ run-taken (ends ws) c values out
+      ∙ run-leaves (ends ws) c values out
 
   module _ (ws out : List ℕ) (n : ℕ) (v : validWords ws ≡ true) (b : length (ends ws .bytes) ≡ n) (h : n ≤ length out) where
     fits : length (ends ws .bytes) ≤ length out

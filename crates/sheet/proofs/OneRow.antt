@@ -1,7 +1,7 @@
 -- A sheet of one row of step 1 from -9,999 to 9,999: it is sound, it shows its row for its identifier and nothing for any other, and
 -- with a number of four digits in its place the values are sound. And no rows are a sound sheet that allows any values.
 -- Assumes nothing.
-use mathlib.Core.Path.{_≡_, refl, sym, ap, _∙_, subst}
+use mathlib.Core.Path.{_≡_, refl, sym, _∙_, subst}
 use mathlib.Core.Bool.{true, false}
 use mathlib.Core.List.{List, [], _∷_}
 use Prim.Native.Nat.{ℕ, _≤_}
@@ -16,7 +16,6 @@ use Rattle.number.proofs.Cuts.{ends-in-range, four-digits, one-multiple}
 use Rattle.message.specs.Message.{question, isIdentifier}
 use Rattle.message.proofs.Messages.{plain-identifier}
 use Rattle.sheet.specs.declared.Row.{Row}
-use Rattle.sheet.specs.declared.Entry.{Entry}
 use Rattle.sheet.specs.declared.Entry.the-variants.{Found, Missing}
 use Rattle.sheet.specs.Sheet.{rows, soundRow, soundRows, soundSheet}
 use Rattle.sheet.specs.Lookup.{isCode, isFor, rowAmong, rowIn, hasRow, rowOf}
