@@ -50,6 +50,7 @@ abbrev pub Fair : List ℤ → List ℤ → Offer → Type 0
 Fair bench maker Nothing = Unit {0}
 Fair bench maker (Held i z) = Allowed bench maker i z
 
+-- what it stores, the row allows, and what it says is an answer
 pub record Good (bench maker : List ℤ) (x : Effect) : Type 0 where
   pub stores : (i : ℕ) (z : ℤ) → x .store ≡ Put i z → Allowed bench maker i z
   pub answers : (a : Answer) → x .said ≡ Reply a → isAnswer a ≡ true

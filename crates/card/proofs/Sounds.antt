@@ -99,6 +99,7 @@ module _ (bench maker : List ℤ) where
 -- ---- values after a store
 
 module _ (bench maker values : List ℤ) where
+  -- what it stores, the row allows
   abbrev Stores : Store → Type 0
   Stores s = (i : ℕ) (z : ℤ) → s ≡ Put i z → Allowed bench maker i z
 

@@ -27,7 +27,7 @@ use Rattle.hearing.proofs.Sound.{pendingOf, pending-holds, spelled-sound, spell
 use Rattle.sheet.specs.declared.Entry.the-variants.{Found}
 use Rattle.sheet.specs.Sheet.{soundSheet}
 use Rattle.sheet.specs.Values.{entryIn, soundValues}
-use Rattle.sheet.proofs.Values.{read-write-is, read-write-readable, read-write-writable, read-only-readable, read-only-kept}
+use Rattle.sheet.proofs.Values.{read-write-is, read-write-readable, read-write-writable, read-only-readable, read-only-not-read-write}
 use Rattle.sheet.proofs.OneRow.{no-rows, no-rows-values, oneRow, itsNumbers, oneValue, one-sound, one-entry, one-there, one-values}
 use Rattle.reply.specs.declared.Mark.{Mark}
 use Rattle.reply.specs.declared.Mark.the-variants.{Accepted, Offered, Refused}
@@ -129,7 +129,7 @@ module _ (l a i : ℕ) (pl : isLetter l ≡ true) (pa : isAddress a ≡ true) (p
         let r = ends-in-range (pos 1) (pos 1) (pos 3) refl refl in
         by-row 1 r body.Up Refused q
         (there 1 r Refused body.Up
-        (up-refused (oneRow i 1 d) [] Nothing (oneValue i n) (asked body.Up) (itsNumbers 1 d) (its 1 r) refl (read-only-kept (itsNumbers 1 d) refl) (read-only-readable (itsNumbers 1 d) refl)))
+        (up-refused (oneRow i 1 d) [] Nothing (oneValue i n) (asked body.Up) (itsNumbers 1 d) (its 1 r) refl (read-only-not-read-write (itsNumbers 1 d) refl) (read-only-readable (itsNumbers 1 d) refl)))
     number-drawn Offered =
         let r = ends-in-range (pos 1) (pos 2) (pos 3) refl refl in
         let h = fits-within n d f .0 in

@@ -128,9 +128,9 @@ pub read-only-readable : (r : Row) → r .access ≡ 1 → isReadable r ≡ true
 unfolding isReadable
 read-only-readable r e = rw e
 
-pub read-only-kept : (r : Row) → r .access ≡ 1 → isReadWrite r ≡ false
+pub read-only-not-read-write : (r : Row) → r .access ≡ 1 → isReadWrite r ≡ false
 unfolding isReadWrite
-read-only-kept r e = rw e
+read-only-not-read-write r e = rw e
 
 pub read-write-readable : (r : Row) → isReadWrite r ≡ true → isReadable r ≡ true
 unfolding isReadWrite isReadable
