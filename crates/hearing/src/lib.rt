@@ -100,17 +100,17 @@ impl Pending {
     }
 }
 
-// With none open only two words matter: `L` and `R` as they travel, CC and D2 hex.
-fn opening(word: u16) -> Action
-    ensures { λ r. ⌜ r ≡ opening (received word) ⌝ }
+fn opening(received: Received) -> Action
+    ensures { λ r. ⌜ r ≡ opening received ⌝ }
 {
-    if word == 0xCC {
-        return Action::Open(b'L');
+    let Received::Character(c) = received else {
+        return Action::Ignore;
+    };
+    if message::is_letter(c) {
+        Action::Open(c)
+    } else {
+        Action::Ignore
     }
-    if word == 0xD2 {
-        return Action::Open(b'R');
-    }
-    Action::Ignore
 }
 
 fn continuing(received: Received) -> Action
@@ -177,7 +177,7 @@ fn action_at(len: usize, word: u16) -> Action
     ensures { λ r. ⌜ r ≡ cond (eqb len 0) (opening (received word)) (continuing (received word)) ⌝ }
 {
     if len == 0 {
-        opening(word)
+        opening(wire::receive(word))
     } else {
         continuing(wire::receive(word))
     }

@@ -87,10 +87,6 @@ pub letter-travels : withParity (code "L") ≡ 0xCC
 unfolding ones onesIn withParity
 letter-travels = refl
 
-pub r-travels : withParity (code "R") ≡ 0xD2
-unfolding ones onesIn withParity
-r-travels = refl
-
 pub star-travels : withParity (code "*") ≡ 0xAA
 unfolding ones onesIn withParity
 star-travels = refl
