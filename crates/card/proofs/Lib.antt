@@ -1,4 +1,6 @@
 pub mod Turns
+pub mod Sounds
 pub mod Steps
 pub mod Runs
+pub mod Plays
 pub mod Said

@@ -7,18 +7,20 @@ use native.Mathlib.Omega.{arith}
 use borrow.Author.Tests.{lt-ltb, le-ltb}
 use lib.IntN.{ℤ}
 use lib.ListN.{length}
+use Rattle.refusal.specs.Refusal.{gave}
+use Rattle.refusal.specs.Call.{laid}
 use Rattle.refusal.specs.declared.Refusal.{Refusal}
 use Rattle.refusal.specs.declared.Refusal.the-variants.{UnsoundCard, UnsoundSheet, UnsoundValues, WordAbove256, RoomTooShort}
 use Rattle.refusal.proofs.Logic.{and-left, and-right, by-test}
 use Rattle.wire.specs.Word.{validWords}
-use Rattle.wire.specs.Line.{longest}
+use Rattle.wire.specs.Line.{longest, bytesOf}
 use Rattle.sheet.specs.Sheet.{soundSheet}
 use Rattle.sheet.specs.Values.{soundValues}
 use Rattle.card.specs.declared.Card.{Card}
 use Rattle.card.specs.declared.Turn.{Turn}
 use Rattle.card.specs.declared.Verdict.{Verdict}
 use Rattle.card.specs.declared.Verdict.the-variants.{Refused, Sound}
-use Rattle.card.specs.Turn.{turn, Played, play}
+use Rattle.card.specs.Turn.{turn, stored, Played, play}
 use Rattle.card.specs.Sound.{soundCard, soundOffer, verdictOf}
 use Rattle.card.specs.Calls.{Step, stepRefused, stepTaken, stepBy, stepCall, Run, runBy, runCall}
 
@@ -74,6 +76,16 @@ step-short t c values out h = rw (lt-ltb (length out) longest h)
 pub step-long : (t : Turn) (c : Card) (values : List ℤ) (out : List ℕ) → longest ≤ length out → stepBy Sound t c values out ≡ stepTaken t values out
 unfolding stepBy
 step-long t c values out h = rw (le-ltb (length out) longest h)
+
+-- all that a word or a run leaves, where it is served
+pub step-leaves : (t : Turn) (values : List ℤ) (out : List ℕ)
+    → stepTaken t values out ≡ record { card = t .card; outcome = gave (length (bytesOf (t .reply))); values = stored values (t .store); buffer = laid (bytesOf (t .reply)) out }
+step-leaves t values out = refl
+
+pub run-leaves : (p : Played) (c : Card) (values : List ℤ) (out : List ℕ)
+    → runBy Sound p c values out ≡ record { card = p .card; outcome = gave (record { words = p .taken; bytes = length (p .bytes) }); values = p .values; buffer = laid (p .bytes) out }
+unfolding runBy
+run-leaves p c values out = refl
 
 module _ (c : Card) (bench maker values : List ℤ) (w : ℕ) (out : List ℕ) where
   pub step-refused : (r : Refusal) → verdictOf c bench maker values (w ∷ []) ≡ Refused r → stepCall c bench maker values w out ≡ stepRefused r c values out

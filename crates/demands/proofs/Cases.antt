@@ -1,4 +1,5 @@
--- The bench cases, by computing the definitions. Assumes nothing.
+-- The bench cases, by computing: this file alone of demands opens the definitions of every crate, since it computes them.
+-- Assumes nothing.
 use mathlib.Core.Path.{_≡_, refl}
 use mathlib.Core.Bool.{Bool, true, _&&_}
 use mathlib.Core.List.{List, [], _∷_}
@@ -20,7 +21,7 @@ use Rattle.sheet.specs.Lookup.{isCode, isFor, rowAmong, placeAmong, rowIn, plac
 use Rattle.sheet.specs.Values.{numbersOf, entryOf, entryIn, isReadable, isWritable, isReadWrite, fitsRow, fitsPlace, soundFrom, soundValues}
 use Rattle.reply.specs.Reply.{spellContent, spellAnswer}
 use Rattle.reply.specs.Read.{same}
-use Rattle.act.specs.Act.{says, puts, shownBy, declines, query, moves, up, down, offers, set, store, serve, act}
+use Rattle.act.specs.Act.{says, puts, shownBy, declines, query, moves, up, down, offers, set, store, serve, respond, act}
 use Rattle.act.specs.declared.Offer.the-variants.{Nothing}
 use Rattle.card.specs.Sound.{soundCard, soundOffer}
 use Rattle.demands.specs.Terms.{Sound}
@@ -28,7 +29,7 @@ use Rattle.card.specs.Turn.{effectOf, turned, turn, stored, play}
 
 -- what a table computes through
 computed : List Case → Bool
-unfolding ones onesIn laid evenParity withParity received travelling empty put lineOf bytesOf inRange isMultiple cutDown cut raised lowered digit isDigit digitOf fits codeOf fiveDigits spellData decode next readFrom readData isLetter isAddress isIdentifier stepIdentifier stepAddress stepData stepBody step scan finish parse spellAddress none added openOf opening continuing actionOf perform hear rows soundIdentifier soundNumbers soundRow isCode isFor rowAmong placeAmong rowIn placeIn hasRow rowOf numbersOf entryOf entryIn isReadable isWritable isReadWrite spellContent spellAnswer same says puts shownBy declines query moves up down offers set store serve act effectOf turned turn stored play benchRows benchValues benchCard sameValues answersAll passes allPass
+unfolding ones onesIn laid evenParity withParity received travelling empty put lineOf bytesOf inRange isMultiple cutDown cut raised lowered digit isDigit digitOf fits codeOf fiveDigits spellData decode next readFrom readData isLetter isAddress isIdentifier stepIdentifier stepAddress stepData stepBody step scan finish parse spellAddress none added openOf opening continuing actionOf perform hear rows soundIdentifier soundNumbers soundRow isCode isFor rowAmong placeAmong rowIn placeIn hasRow rowOf numbersOf entryOf entryIn isReadable isWritable isReadWrite spellContent spellAnswer same says puts shownBy declines query moves up down offers set store serve respond act effectOf turned turn stored play benchRows benchValues benchCard sameValues answersAll passes allPass
 computed xs = allPass xs
 
 -- cases a to l

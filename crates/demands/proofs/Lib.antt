@@ -1,5 +1,4 @@
 pub mod Cases
-pub mod Played
 pub mod Recordings
 pub mod Words
 pub mod Kept

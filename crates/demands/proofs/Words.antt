@@ -1,25 +1,24 @@
 -- Demand 2, the claims on single words and on the writer: a run is its words one after the other, and what the writer makes is heard.
 -- Assumes nothing.
-use mathlib.Core.Path.{_≡_, refl, sym, ap, _∙_}
-use mathlib.Core.Bool.{Bool, true, false, cond, _&&_}
+use mathlib.Core.Path.{_≡_, sym, ap, _∙_}
+use mathlib.Core.Bool.{cond}
 use mathlib.Core.List.{List, [], _∷_}
 use Prim.Native.Nat.{ℕ, _-_, _≤_}
-use native.Mathlib.Omega.{arith}
-use borrow.Author.Tests.{le-leb}
 use lib.Dec.{leb}
 use lib.IntN.{ℤ}
 use lib.ListN.{length, take}
 use Rattle.refusal.specs.Refusal.{gave}
 use Rattle.refusal.specs.Call.{laid}
 use Rattle.refusal.proofs.Calls.{laid-front}
-use Rattle.wire.specs.Word.{every, validWords}
 use Rattle.wire.specs.Line.{longest, bytesOf}
+use Rattle.wire.proofs.Words.{word-valid}
 use Rattle.hearing.proofs.Normal.{writer-heard}
 use Rattle.card.specs.declared.Card.{Card}
 use Rattle.card.specs.declared.Turn.{Turn}
 use Rattle.card.specs.Turn.{turn, stored, stopped, after, play, Played}
-use Rattle.card.specs.Calls.{Step, stepTaken, stepCall}
-use Rattle.card.proofs.Steps.{all-sound, step-served, step-long}
+use Rattle.card.specs.Calls.{Step, stepCall}
+use Rattle.card.proofs.Steps.{all-sound, step-served, step-long, step-leaves}
+use Rattle.card.proofs.Plays.{play-word}
 use Rattle.demands.specs.Terms.{Sound}
 use Rattle.demands.specs.Demand2.{WriterHeard, RunSteps}
 
@@ -29,24 +28,15 @@ writers-heard = record {
   none-open = λ m out n e. writer-heard m out n e .1;
 }
 
-one-valid : (w : ℕ) → w ≤ 256 → validWords (w ∷ []) ≡ true
-unfolding validWords every
-one-valid w h = rw (le-leb w 256 h)
-
 module _ (bench maker : List ℤ) (c : Card) (values : List ℤ) (s : Sound bench maker c values) where
   -- a single word that is served
-  pub taken : (w : ℕ) (out : List ℕ) → w ≤ 256 → longest ≤ length out → stepCall c bench maker values w out ≡ stepTaken (turn bench maker c values w) values out
+  pub taken : (w : ℕ) (out : List ℕ) → w ≤ 256 → longest ≤ length out
+      → let t : Turn = turn bench maker c values w in
+      stepCall c bench maker values w out ≡ record { card = t .card; outcome = gave (length (bytesOf (t .reply))); values = stored values (t .store); buffer = laid (bytesOf (t .reply)) out }
   taken w out v h =
-      step-served c bench maker values w out (all-sound c bench maker values (w ∷ []) (s .card-sound) (s .sheets-sound) (s .offer-sound) (s .values-sound) (one-valid w v))
+      step-served c bench maker values w out (all-sound c bench maker values (w ∷ []) (s .card-sound) (s .sheets-sound) (s .offer-sound) (s .values-sound) (word-valid w v))
       ∙ step-long (turn bench maker c values w) c values out h
-
-play-word : (bench maker : List ℤ) (c : Card) (values : List ℤ) (room w : ℕ) (ws : List ℕ)
-    → play bench maker c values room (w ∷ ws)
-    ≡ cond (leb (length (bytesOf (turn bench maker c values w .reply))) room)
-    (after (bytesOf (turn bench maker c values w .reply)) (play bench maker (turn bench maker c values w .card) (stored values (turn bench maker c values w .store)) (room - length (bytesOf (turn bench maker c values w .reply))) ws))
-    (stopped c values)
-unfolding play
-play-word bench maker c values room w ws = refl
+      ∙ step-leaves (turn bench maker c values w) values out
 
 pub run-steps : RunSteps
 run-steps = record {

@@ -3,7 +3,7 @@
 -- about those definitions: what our writer and our reader make of them, and what they never do.
 use mathlib.Core.Path.{_≡_}
 use mathlib.Core.Logic.{_↔_}
-use mathlib.Core.Bool.{true, cond, _&&_}
+use mathlib.Core.Bool.{true, cond}
 use mathlib.Core.List.{List, [], _∷_}
 use Prim.Native.Nat.{ℕ, _-_, _≤_}
 use lib.Dec.{leb}
@@ -18,10 +18,9 @@ use Rattle.message.specs.declared.Body.the-variants.{Set}
 use Rattle.message.specs.declared.Message.{Message}
 use Rattle.message.specs.Message.{isMessage}
 use Rattle.message.specs.Spell.{writeCall}
-use Rattle.hearing.specs.Hearing.{none, openAfter, heard}
+use Rattle.hearing.specs.Hearing.{most, none, openAfter, heard}
 use Rattle.sheet.specs.declared.Row.{Row}
 use Rattle.sheet.specs.declared.Entry.the-variants.{Found, Missing}
-use Rattle.sheet.specs.Sheet.{soundSheet}
 use Rattle.sheet.specs.Values.{entryIn}
 use Rattle.reply.specs.declared.Answer.{Answer}
 use Rattle.reply.specs.Reply.{spellAnswer}
@@ -31,7 +30,6 @@ use Rattle.act.specs.declared.Offer.the-variants.{Held}
 use Rattle.act.specs.declared.Said.the-variants.{Reply}
 use Rattle.act.specs.Act.{act}
 use Rattle.card.specs.declared.Card.{Card}
-use Rattle.card.specs.declared.Turn.{Turn}
 use Rattle.card.specs.Turn.{turn, stored, stopped, after, play}
 use Rattle.card.specs.Sound.{soundOffer}
 use Rattle.card.specs.Calls.{Step, stepCall}
@@ -55,6 +53,8 @@ pub record Drawn (bs : List ℕ) (a : Answer) : Type 0 where
   pub values : List ℤ
   pub word : ℕ
   pub sound : Sound bench maker card values
+  -- the open message has its room, as every card of the code has
+  pub room : length (card .pending .chars) ≡ most
   pub valid : word ≤ 256
   pub says : saidTo bench maker card values word ≡ Reply a
   pub bytes : bytesOf (turn bench maker card values word .reply) ≡ bs
@@ -78,7 +78,7 @@ pub record LeftBy (bench maker : List ℤ) (o : Offer) : Type 0 where
 
 -- number 1: an offer is sound exactly when a Type 3 can leave it under these sheets
 pub record OfferReachable : Type 0 where
-  pub reachable : (bench maker : List ℤ) (i : ℕ) (z : ℤ) → (soundSheet bench && soundSheet maker) ≡ true → (soundOffer bench maker (Held i z) ≡ true) ↔ LeftBy bench maker (Held i z)
+  pub reachable : (bench maker : List ℤ) (i : ℕ) (z : ℤ) → (soundOffer bench maker (Held i z) ≡ true) ↔ LeftBy bench maker (Held i z)
 
 -- a word leaves a sound card with sound values sound, and every place without a row as it was
 pub record StaysSound : Type 0 where

@@ -79,6 +79,26 @@ module _ (p : Pending) (n : 1 ≤ p .len) where
 
 -- ---- a word, and those behind it
 
+pub heard-start : (ws : List ℕ) → heard ws ≡ heardFrom none ws
+unfolding heard
+heard-start ws = refl
+
+pub heard-end : (p : Pending) → heardFrom p [] ≡ []
+unfolding heardFrom
+heard-end p = refl
+
+pub heard-word : (p : Pending) (w : ℕ) (ws : List ℕ) → heardFrom p (w ∷ ws) ≡ before (hear p w .message) (heardFrom (hear p w .pending) ws)
+unfolding heardFrom
+heard-word p w ws = refl
+
+pub before-heard : (m : Message) (ms : List Message) → before (Heard m) ms ≡ m ∷ ms
+unfolding before
+before-heard m ms = refl
+
+pub before-unheard : (ms : List Message) → before Unheard ms ≡ ms
+unfolding before
+before-unheard ms = refl
+
 -- after some words the messages heard and the message open are those from q on
 pub record Leads (p : Pending) (ws : List ℕ) (q : Pending) (rest : List ℕ) : Type 0 where
   pub hears : heardFrom p ws ≡ heardFrom q rest

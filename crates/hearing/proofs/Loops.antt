@@ -4,29 +4,33 @@ use mathlib.Core.Path.{_≡_, refl, sym, ap, _∙_, subst}
 use mathlib.Core.Bool.{Bool, true, false, cond}
 use mathlib.Core.List.{List, [], _∷_, _++_, append-nil, append-assoc}
 use Prim.Native.Nat.{ℕ, suc, _+_, _-_, _<_, _≤_}
+use native.Mathlib.Nat.{min-le-left}
 use native.Mathlib.Numerals.{add-one}
 use native.Mathlib.Omega.{arith}
 use borrow.Author.Tests.{le-leb, lt-leb, leb-true, leb-false}
-use lib.Dec.{leb}
-use lib.ListN.{length, getD, take, drop, length-append, take-append-drop, drop-of-length-le}
+use lib.Dec.{leb, ltb}
+use lib.ListN.{length, getD, take, drop, length-append, take-append-drop, drop-of-length-le, length-take}
 use lib.Seq.{drop-cons, drop-drop, paste, length-paste, take-paste, drop-paste, length-take-le, take-length}
 use Rattle.refusal.specs.Call.{laid, writes, refuses}
 use Rattle.refusal.specs.declared.Refusal.the-variants.{WordAbove256}
 use Rattle.refusal.proofs.Logic.{choice}
 use Rattle.wire.specs.Word.{validWords}
+use Rattle.wire.proofs.Words.{travelling-length}
 use Rattle.wire.specs.Line.{placed}
 use Rattle.wire.proofs.Lines.{placed-paste}
 use Rattle.message.specs.declared.Message.{Message}
 use Rattle.message.specs.declared.Parsed.{Parsed}
 use Rattle.message.specs.declared.Parsed.the-variants.{Heard, Unheard}
 use Rattle.message.specs.Scan.{parse}
+use Rattle.message.specs.Spell.{spell}
+use Rattle.message.proofs.Short.{spelled-short}
 use Rattle.hearing.specs.declared.Pending.{Pending}
+use Rattle.hearing.specs.declared.Action.{Action}
+use Rattle.hearing.specs.declared.Action.the-variants.{Ignore, Open, Add, Close, Drop}
 use Rattle.hearing.specs.declared.Hearing.{Hearing}
 use Rattle.hearing.specs.declared.Reached.{Reached}
-use Rattle.hearing.specs.declared.Count.{Count}
-use Rattle.hearing.specs.declared.Count.the-variants.{Fits, TooLong}
-use Rattle.hearing.specs.Hearing.{none, openOf, hear, before, heardFrom, heard, toClose}
-use Rattle.hearing.specs.Normal.{worth, wordsOf, normal, countOf, normalCall}
+use Rattle.hearing.specs.Hearing.{most, none, added, openOf, actionOf, perform, hear, before, heardFrom, heard, toClose}
+use Rattle.hearing.specs.Normal.{worth, wordsOf, normal, normalCall}
 use Rattle.hearing.proofs.Close.{reached, reached-hears}
 
 -- the normal form of what is still to come
@@ -75,6 +79,38 @@ module _ (ws : List ℕ) (i : ℕ) where
   pub normal-closed : next .at < length ws → normalFrom none (drop i ws) ≡ worth (parse (openOf (next .pending))) ++ normalFrom none (drop (next .at + 1) ws)
   normal-closed h = normal-reached none ws i ∙ normal-more (next .pending) ws (next .at) h (parse (openOf (next .pending))) (reached-hears ws none i h)
 
+-- ---- the normal form is not longer than the words
+
+worth-short : (cs : List ℕ) → length (worth (parse cs)) ≤ length cs + 1
+worth-short cs = go (parse cs) refl
+  where
+    go : (o : Parsed) → parse cs ≡ o → length (worth o) ≤ length cs + 1
+    go (Heard m) e = unfold worth in omega (arith, travelling-length (spell m), spelled-short cs m e)
+    go Unheard e = unfold worth in omega arith
+
+open-short : (p : Pending) → length (openOf p) ≤ p .len
+unfolding openOf
+open-short p = subst (λ (n : ℕ). n ≤ p .len) (sym (length-take (p .len) (p .chars))) (min-le-left (p .len) (length (p .chars)))
+
+-- what a word leaves open and what it closes are together longer by one at most
+perform-short : (p : Pending) (a : Action) → perform p a .pending .len + length (worth (perform p a .message)) ≤ p .len + 1
+unfolding perform added none worth
+perform-short p Ignore = omega arith
+perform-short p (Open c) = omega arith
+perform-short p (Add c) = choice (λ (q : Pending). q .len + 0 ≤ p .len + 1) (ltb (p .len) most) (λ t. omega arith) (λ t. omega arith)
+perform-short p Close = omega (arith, worth-short (openOf p), open-short p)
+perform-short p Drop = omega arith
+
+normal-length : (p : Pending) (ws : List ℕ) → length (normalFrom p ws) ≤ p .len + length ws
+unfolding normalFrom heardFrom hear
+normal-length p [] = unfold wordsOf in omega arith
+normal-length p (w ∷ ws) =
+    let h = perform p (actionOf p w) in
+    omega (arith, ap length (words-before (h .message) (heardFrom (h .pending) ws)), length-append (worth (h .message)) (wordsOf (heardFrom (h .pending) ws)), perform-short p (actionOf p w), normal-length (h .pending) ws)
+
+pub normal-short : (ws : List ℕ) → length (normal ws) ≤ length ws
+normal-short ws = unfold none in omega (arith, ap length (normal-whole ws), normal-length none ws)
+
 -- ---- the counting pass
 
 pub record Counted (ws : List ℕ) (room n i : ℕ) : Type 0 where
@@ -99,17 +135,12 @@ module _ (ws : List ℕ) (room n i : ℕ) (c : Counted ws room n i) where
     pub counted : k ≤ room - n → Counted ws room (n + k) (next ws i .at + 1)
     counted r = let a = c .n-in in record { i-in = omega arith; n-in = omega arith; whole = omega (arith, more) }
 
-    pub too-long : room - n < k → countOf (length (normal ws)) room ≡ TooLong
-    unfolding countOf
-    too-long r = let a = c .n-in in rw (lt-leb (length (normal ws)) room (omega (arith, more)))
+    pub too-long : room - n < k → false ≡ leb (length (normal ws)) room
+    too-long r = let a = c .n-in in sym (lt-leb (length (normal ws)) room (omega (arith, more)))
 
   -- nothing more is heard
-  pub count-ends : normalFrom none (drop i ws) ≡ [] → countOf (length (normal ws)) room ≡ Fits n
-  unfolding countOf
-  count-ends d =
-      let e : length (normal ws) ≡ n = omega (arith, c .whole, ap length d) in
-      let a = c .n-in in
-      ap (λ (m : ℕ). cond (leb m room) (Fits m) TooLong) e ∙ rw (le-leb n room a)
+  pub count-ends : normalFrom none (drop i ws) ≡ [] → true ≡ leb (length (normal ws)) room
+  count-ends d = let a = c .n-in in sym (le-leb (length (normal ws)) room (omega (arith, c .whole, ap length d)))
 
 -- ---- the writing pass
 
@@ -173,37 +204,21 @@ module _ (ws out₀ out : List ℕ) (at i : ℕ) (f : Filled ws out₀ out at i)
         }
 
   -- nothing more is heard
-  pub fill-ends : normalFrom none (drop i ws) ≡ [] → out ≡ laid (normal ws) out₀
+  pub fill-ends : normalFrom none (drop i ws) ≡ [] → (at ≡ length (normal ws)) × (out ≡ laid (normal ws) out₀)
   unfolding laid
   fill-ends d =
       let a = f .at-in in
       let b = f .long in
       let e : normal ws ≡ take at out = f .whole ∙ ap (λ (l : List ℕ). take at out ++ l) d ∙ append-nil (take at out) in
-      let n : length (normal ws) ≡ at = ap length e ∙ length-take-le at out (omega arith) in
-      sym (take-append-drop at out)
-      ∙ ap (λ (l : List ℕ). l ++ drop at out) (sym e)
-      ∙ ap (λ (l : List ℕ). normal ws ++ l) (f .behind)
-      ∙ ap (λ (k : ℕ). normal ws ++ drop k out₀) (sym n)
+      let n : length (normal ws) ≡ at = ap length e ∙ length-take-le at out (omega arith) in (
+        sym n,
+        sym (take-append-drop at out)
+            ∙ ap (λ (l : List ℕ). l ++ drop at out) (sym e)
+            ∙ ap (λ (l : List ℕ). normal ws ++ l) (f .behind)
+            ∙ ap (λ (k : ℕ). normal ws ++ drop k out₀) (sym n),
+      )
 
 -- ---- the call
-
-pub count-fits : (k room n : ℕ) → countOf k room ≡ Fits n → (n ≡ k) × (k ≤ room)
-unfolding countOf
-count-fits k room n =
-    choice (λ (x : Count). x ≡ Fits n → (n ≡ k) × (k ≤ room)) (leb k room)
-    (λ t e. (cc, leb-true k room t)) (λ t e. absurd (never e))
-  where
-    never : TooLong ≡ Fits n → ⊥
-    never e = let z : _≡_ {A = ℕ} 0 1 = cc in omega arith
-
-pub count-long : (k room : ℕ) → countOf k room ≡ TooLong → room < k
-unfolding countOf
-count-long k room =
-    choice (λ (x : Count). x ≡ TooLong → room < k) (leb k room)
-    (λ t e. absurd (never e)) (λ t e. leb-false k room t)
-  where
-    never : Fits k ≡ TooLong → ⊥
-    never e = let z : _≡_ {A = ℕ} 0 1 = cc in omega arith
 
 pub normal-refused : (ws out : List ℕ) → validWords ws ≡ false → normalCall ws out ≡ refuses WordAbove256 out
 unfolding normalCall

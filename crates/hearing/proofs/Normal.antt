@@ -1,23 +1,22 @@
--- The normal form: it is heard as its recording, it is its own normal form, and it tells recordings apart exactly by what is heard
--- in them. Each for whole lists of words, whatever the words. Assumes nothing.
+-- The normal form: it is heard as its recording, it is its own normal form, it is a recording, and it tells recordings apart exactly by
+-- what is heard in them. Each for whole lists of words, whatever the words. Assumes nothing.
 use mathlib.Core.Path.{_≡_, refl, sym, ap, _∙_}
 use mathlib.Core.Logic.{_↔_}
-use mathlib.Core.Bool.{Bool, true, false, cond}
+use mathlib.Core.Bool.{true}
 use mathlib.Core.List.{List, [], _∷_, _++_, append-nil}
 use Prim.Native.Nat.{ℕ}
-use native.Mathlib.Omega.{arith}
-use lib.Dec.{leb}
-use lib.ListN.{length, take}
+use lib.ListN.{take}
 use Rattle.refusal.proofs.Logic.{choice}
-use Rattle.refusal.proofs.Calls.{laid-front}
-use Rattle.refusal.specs.Refusal.{Outcome, refused, gave}
-use Rattle.refusal.specs.Call.{Call, writes, laid, refuses}
-use Rattle.wire.specs.Word.{travelling}
+use Rattle.refusal.proofs.Calls.{refused-gave, gave-front}
+use Rattle.refusal.specs.Refusal.{gave}
+use Rattle.refusal.specs.Call.{Call}
+use Rattle.wire.specs.Word.{travelling, validWords}
+use Rattle.wire.proofs.Words.{no-words-valid, append-valid, travelling-valid}
 use Rattle.message.specs.declared.Message.{Message}
 use Rattle.message.specs.Message.{isMessage}
 use Rattle.message.specs.Spell.{spell, writeCall}
 use Rattle.hearing.specs.Hearing.{none, heardFrom, openAfter, heard}
-use Rattle.hearing.specs.Normal.{wordsOf, normal}
+use Rattle.hearing.specs.Normal.{wordsOf, normal, normalCall}
 use Rattle.hearing.proofs.Heard.{Messages, heard-messages, spelled}
 
 -- ---- messages one after the other
@@ -51,21 +50,33 @@ pub normal-same : (a b : List ℕ) → (normal a ≡ normal b) ↔ (heard a ≡ 
 unfolding normal
 normal-same a b = (λ e. sym (heard-normal a) ∙ ap heard e ∙ heard-normal b, λ e. ap wordsOf e)
 
+-- it is a recording
+words-valid : (ms : List Message) → validWords (wordsOf ms) ≡ true
+unfolding wordsOf
+words-valid [] = no-words-valid
+words-valid (m ∷ ms) = append-valid (travelling (spell m)) (wordsOf ms) (travelling-valid (spell m)) (words-valid ms)
+
+pub normal-valid : (ws : List ℕ) → validWords (normal ws) ≡ true
+unfolding normal
+normal-valid ws = words-valid (heard ws)
+
+-- the call gave n words: they are the normal form
+pub normal-written : (ws out : List ℕ) (n : ℕ) → normalCall ws out .outcome ≡ gave n → take n (normalCall ws out .buffer) ≡ normal ws
+unfolding normalCall
+normal-written ws out n =
+    choice (λ (c : Call). c .outcome ≡ gave n → take n (c .buffer) ≡ normal ws) (validWords ws)
+    (λ t e. gave-front (normal ws) out n e)
+    (λ t e. absurd (refused-gave e))
+
 -- ---- the writer
 
 -- the writer gave n bytes: they are the message as it travels
 gave-message : (m : Message) (out : List ℕ) (n : ℕ) → writeCall m out .outcome ≡ gave n → (isMessage m ≡ true) × (take n (writeCall m out .buffer) ≡ travelling (spell m))
-unfolding writeCall writes
+unfolding writeCall
 gave-message m out n =
     choice (λ (c : Call). c .outcome ≡ gave n → (isMessage m ≡ true) × (take n (c .buffer) ≡ travelling (spell m))) (isMessage m)
-    (λ t.
-    choice (λ (c : Call). c .outcome ≡ gave n → (isMessage m ≡ true) × (take n (c .buffer) ≡ travelling (spell m))) (leb (length (travelling (spell m))) (length out))
-    (λ u e. let k : n ≡ length (travelling (spell m)) = cc in (t, ap (λ (j : ℕ). take j (laid (travelling (spell m)) out)) k ∙ laid-front (travelling (spell m)) out))
-    (λ u e. absurd (never e)))
-    (λ t e. absurd (never e))
-  where
-    never : {k : ℕ} → refused k ≡ gave n → ⊥
-    never e = let z : _≡_ {A = ℕ} 0 1 = cc in omega arith
+    (λ t e. (t, gave-front (travelling (spell m)) out n e))
+    (λ t e. absurd (refused-gave e))
 
 -- every message that the writer accepts is heard as itself, from no open message, and leaves none open
 pub writer-heard : (m : Message) (out : List ℕ) (n : ℕ) → writeCall m out .outcome ≡ gave n

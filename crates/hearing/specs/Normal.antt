@@ -2,7 +2,6 @@
 use mathlib.Core.Bool.{cond}
 use mathlib.Core.List.{List, [], _∷_, _++_}
 use Prim.Native.Nat.{ℕ}
-use lib.Dec.{leb}
 use Rattle.refusal.specs.Call.{Call, refuses, writes}
 use Rattle.refusal.specs.declared.Refusal.the-variants.{WordAbove256}
 use Rattle.wire.specs.Word.{travelling, validWords}
@@ -10,8 +9,6 @@ use Rattle.message.specs.declared.Message.{Message}
 use Rattle.message.specs.declared.Parsed.{Parsed}
 use Rattle.message.specs.declared.Parsed.the-variants.{Heard, Unheard}
 use Rattle.message.specs.Spell.{spell}
-use Rattle.hearing.specs.declared.Count.{Count}
-use Rattle.hearing.specs.declared.Count.the-variants.{Fits, TooLong}
 use Rattle.hearing.specs.Hearing.{heard}
 
 -- the words of what has been heard, if anything: the message as the writer spells it
@@ -31,7 +28,3 @@ normal ws = wordsOf (heard ws)
 -- number 4 before number 5
 unfoldable pub normalCall : List ℕ → List ℕ → Call
 normalCall ws out = cond (validWords ws) (writes (normal ws) out) (refuses WordAbove256 out)
-
--- so many words, where they fit the room
-unfoldable pub countOf : ℕ → ℕ → Count
-countOf n room = cond (leb n room) (Fits n) TooLong

@@ -3,14 +3,14 @@ ghost use mathlib.Core.Path.{_≡_};
 ghost use Prim.Native.Nat.{_+_, _≤_};
 ghost use lib.ListN.{length, drop};
 ghost use mathlib.Core.Bool.{cond};
-ghost use lib.Dec.{eqb};
+ghost use lib.Dec.{eqb, leb};
 ghost use Rattle.refusal.specs.Refusal.{outcomeOf};
 ghost use Rattle.refusal.specs.Call.{laid};
 ghost use Rattle.wire.specs.Word.{received};
 ghost use Rattle.wire.specs.Line.{placed};
 ghost use Rattle.hearing.specs.Hearing.{none, added, openOf, opening, continuing, actionOf, perform, hear, toClose};
 ghost use Rattle.hearing.specs.Sound.{plain, zeros, soundPending};
-ghost use Rattle.hearing.specs.Normal.{worth, normal, normalCall, countOf};
+ghost use Rattle.hearing.specs.Normal.{worth, normal, normalCall};
 ghost use Rattle.message.specs.Scan.{parse};
 use message::Message;
 use message::Parsed;
@@ -176,11 +176,10 @@ pub struct Reached {
 fn action_at(len: usize, word: u16) -> Action
     ensures { λ r. ⌜ r ≡ cond (eqb len 0) (opening (received word)) (continuing (received word)) ⌝ }
 {
-    let received = wire::receive(word);
     if len == 0 {
-        opening(received)
+        opening(wire::receive(word))
     } else {
-        continuing(received)
+        continuing(wire::receive(word))
     }
 }
 
@@ -223,12 +222,6 @@ pub fn to_close(pending: Pending, words: &[u16], from: usize) -> Reached
     Reached { pending, at }
 }
 
-// How long a normal form is, where it fits the room.
-enum Count {
-    Fits(usize),
-    TooLong,
-}
-
 // The words that a heard message has in a normal form.
 fn count_of(message: Parsed) -> usize
     ensures { λ r. ⌜ r ≡ length (worth message) ⌝ }
@@ -239,9 +232,9 @@ fn count_of(message: Parsed) -> usize
     message::spelled_len(m)
 }
 
-// The counting pass.
-fn measure(words: &[u16], room: usize) -> Count
-    ensures { λ r. ⌜ r ≡ countOf (length (normal (now (words .entry)))) room ⌝ }
+// The counting pass: whether the normal form fits the room.
+fn measure(words: &[u16], room: usize) -> bool
+    ensures { λ r. ⌜ r ≡ leb (length (normal (now (words .entry)))) room ⌝ }
 {
     let mut n: usize = 0;
     let mut i = 0;
@@ -249,18 +242,28 @@ fn measure(words: &[u16], room: usize) -> Count
         let reached = to_close(Pending::new(), words, i);
         let at = reached.at;
         if words.len() <= at {
-            break;
+            return true;
         }
         let pending = reached.pending;
         let message = pending.close();
         let more = count_of(message);
         if room - n < more {
-            return Count::TooLong;
+            return false;
         }
         n += more;
         i = at + 1;
     }
-    Count::Fits(n)
+    true
+}
+
+// A normal form is never longer than its recording, so the words are counted only where there is less room.
+fn fits(words: &[u16], room: usize) -> bool
+    ensures { λ r. ⌜ r ≡ leb (length (normal (now (words .entry)))) room ⌝ }
+{
+    if words.len() <= room {
+        return true;
+    }
+    measure(words, room)
 }
 
 // The words of a heard message into the buffer from a place on, and the place behind them.
@@ -289,10 +292,10 @@ fn copy(bytes: &[u8], out: &mut [u16], at: usize)
     }
 }
 
-// The writing pass.
-fn fill(words: &[u16], out: &mut [u16])
+// The writing pass; it gives the number of words written.
+fn fill(words: &[u16], out: &mut [u16]) -> usize
     requires { ⌜ length (normal (now words)) ≤ length (now out) ⌝ }
-    ensures { λ _. ⌜ now (out .exit) ≡ laid (normal (now (words .entry))) (now (out .entry)) ⌝ }
+    ensures { λ r. ⌜ (r ≡ length (normal (now (words .entry)))) × (now (out .exit) ≡ laid (normal (now (words .entry))) (now (out .entry))) ⌝ }
 {
     let mut at = 0;
     let mut i = 0;
@@ -300,13 +303,14 @@ fn fill(words: &[u16], out: &mut [u16])
         let reached = to_close(Pending::new(), words, i);
         let stop = reached.at;
         if words.len() <= stop {
-            break;
+            return at;
         }
         let pending = reached.pending;
         let message = pending.close();
         at = put(message, out, at);
         i = stop + 1;
     }
+    at
 }
 
 // The normal form of a recording.
@@ -317,11 +321,10 @@ pub fn normal_form(words: &[u16], out: &mut [u16]) -> Written
     if !wire::valid_words(words) {
         return Written::Refused(Refusal::WordAbove256);
     }
-    let Count::Fits(n) = measure(words, out.len()) else {
+    if !fits(words, out.len()) {
         return Written::Refused(Refusal::RoomTooShort);
-    };
-    fill(words, out);
-    Written::Wrote(n)
+    }
+    Written::Wrote(fill(words, out))
 }
 
 fn plain(chars: &[u8]) -> bool

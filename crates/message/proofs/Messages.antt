@@ -3,14 +3,17 @@ use mathlib.Core.Path.{_≡_, refl, sym, ap, _∙_, subst}
 use mathlib.Core.Bool.{Bool, true, false, not, _&&_, _||_}
 use mathlib.Core.List.{List, [], _∷_, _++_}
 use Prim.Native.Nat.{ℕ, _<_, _≤_}
+use Prim.Native.Char.{code}
 use native.Mathlib.Omega.{arith}
-use borrow.Author.Tests.{leb-true, eqb-true, ne-eqb}
+use borrow.Author.Tests.{leb-true, le-leb, eqb-true, ne-eqb}
 use lib.Dec.{leb, eqb}
-use Rattle.refusal.proofs.Logic.{ands, and-both, not-is, or-cases}
-use Rattle.number.specs.Data.{isDigit}
+use Rattle.refusal.proofs.Logic.{ands, and-both, not-is, is-not, or-cases}
+use Rattle.number.specs.Data.{isDigit, fits}
 use Rattle.number.proofs.Digits.{digit-ends}
+use Rattle.message.specs.declared.Body.{Body}
+use Rattle.message.specs.declared.Body.the-variants.{Status, Query, Up, Down, Set, Store}
 use Rattle.message.specs.declared.Message.{Message}
-use Rattle.message.specs.Message.{star, isLetter, isAddress, isIdentifier, fitsBody, isMessage}
+use Rattle.message.specs.Message.{star, question, isLetter, isAddress, isIdentifier, fitsBody, isMessage}
 
 -- a message as heard, by its parts
 pub record Parts (m : Message) : Type 0 where
@@ -26,6 +29,41 @@ parts m e = record { is-letter = search ands; is-address = search ands; is-ident
 pub whole : (m : Message) → Parts m → isMessage m ≡ true
 unfolding isMessage
 whole m p = and-both (and-both (and-both (p .is-letter) (p .is-address)) (p .is-identifier)) (p .fits-body)
+
+-- a body by its type: Type 1 has the identifier `?`, every other type another, and Type 3 a number that can be written
+abbrev pub BodyParts : ℕ → Body → Type 0
+BodyParts i Status = eqb i question ≡ true
+BodyParts i Query = eqb i question ≡ false
+BodyParts i Up = eqb i question ≡ false
+BodyParts i Down = eqb i question ≡ false
+BodyParts i (Set n d) = (eqb i question ≡ false) × (fits n d ≡ true)
+BodyParts i Store = eqb i question ≡ false
+
+pub body-parts : (i : ℕ) (b : Body) → fitsBody i b ≡ true → BodyParts i b
+unfolding fitsBody
+body-parts i Status e = e
+body-parts i Query e = not-is e
+body-parts i Up e = not-is e
+body-parts i Down e = not-is e
+body-parts i (Set n d) e = (not-is {a = eqb i question} (search ands), search ands)
+body-parts i Store e = not-is e
+
+pub parts-body : (i : ℕ) (b : Body) → BodyParts i b → fitsBody i b ≡ true
+unfolding fitsBody
+parts-body i Status p = p
+parts-body i Query p = is-not p
+parts-body i Up p = is-not p
+parts-body i Down p = is-not p
+parts-body i (Set n d) p = and-both (is-not (p .0)) (p .1)
+parts-body i Store p = is-not p
+
+pub letter-is : isLetter (code "L") ≡ true
+unfolding isLetter
+letter-is = refl
+
+pub address-is : (a : ℕ) → 1 ≤ a → a ≤ 99 → isAddress a ≡ true
+unfolding isAddress
+address-is a h k = and-both (le-leb 1 a h) (le-leb a 99 k)
 
 pub address-least : (a : ℕ) → isAddress a ≡ true → 1 ≤ a
 unfolding isAddress

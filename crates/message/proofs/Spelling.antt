@@ -73,6 +73,11 @@ spell-small m p =
     small-append (m .letter ∷ (spellAddress (m .address) ++ (m .identifier ∷ spellBody (m .body)))) (star ∷ [])
     (plain-letter (m .letter) (p .is-letter) .small, plain-small (spellAddress (m .address) ++ (m .identifier ∷ spellBody (m .body))) (plain-rest m p)) (lit< tt, tt)
 
+-- the letter stands first
+pub open-first : (m : Message) → spellOpen m ≡ m .letter ∷ (spellAddress (m .address) ++ (m .identifier ∷ spellBody (m .body)))
+unfolding spellOpen
+open-first m = refl
+
 -- ---- its length, whatever it is
 
 pub address-length : (a : ℕ) → length (spellAddress a) ≤ 2

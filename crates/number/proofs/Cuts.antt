@@ -4,7 +4,7 @@
 use mathlib.Core.Path.{_≡_, refl, sym, ap, _∙_, subst}
 use mathlib.Core.Bool.{true, _&&_, false≢true}
 use Prim.Native.Nat.{ℕ, suc, _+_, _-_, _*_, _/_, _%_, _<_, _≤_}
-use native.Mathlib.Nat.{mod-lt, mul-mod-left, add-mod-right, div-add-mod', div-lt-iff-lt-mul, mul-le-mul-right, suc-mul, le-div-iff-mul-le, le-of-lt, mod-eq-sub-mod, zero-mod}
+use native.Mathlib.Nat.{mod-lt, mul-mod-left, add-mod-right, div-add-mod', div-lt-iff-lt-mul, mul-le-mul-right, suc-mul, le-div-iff-mul-le, le-of-lt, mod-eq-sub-mod, mod-one, zero-mod}
 use native.Mathlib.Omega.{arith}
 use lib.Dec.{eqb, ltb, lit≤}
 use lib.IntN.{ℤ, pos, negsuc, negℤ, natAbs, subℕ, _+ℤ_, _-ℤ_, negℤ-+ℤ, negℤ-negℤ}
@@ -63,6 +63,10 @@ multiple-rem x step e = eqb-true _ 0 (and-right (leZ (pos 1) step) (eqb (natAbs 
 pub rem-multiple : (x step : ℤ) → leZ (pos 1) step ≡ true → natAbs x % natAbs step ≡ 0 → isMultiple x step ≡ true
 unfolding isMultiple
 rem-multiple x step p e = and-both p (eq-eqb _ 0 e)
+
+-- every number is a multiple of 1
+pub one-multiple : (x : ℤ) → isMultiple x (pos 1) ≡ true
+one-multiple x = rem-multiple x (pos 1) refl (mod-one (natAbs x))
 
 -- ---- of natural numbers
 
@@ -164,6 +168,10 @@ module _ (step : ℤ) (p : leZ (pos 1) step ≡ true) where
   pub cut-is : (x : ℤ) → natAbs x ≤ 9999 → natAbs step ≤ 9999 → cut x step ≡ cutDown x (natAbs step)
   unfolding cut
   cut-is x h k = simp (four-digits x h, ends-in-range (pos 1) step (pos 9999) p (in-range-ends (negsuc 9998) step (pos 9999) (four-digits step k) .1))
+
+  -- a multiple of four digits stays as it is
+  pub cut-own : (x : ℤ) → natAbs x ≤ 9999 → natAbs step ≤ 9999 → isMultiple x step ≡ true → cut x step ≡ x
+  cut-own x h k m = cut-is x h k ∙ cut-same x m
 
 -- the cut of a number in the range of a row is in that range, and a multiple
 pub cut-in-row : (least x greatest step : ℤ) → natAbs least ≤ 9999 → natAbs greatest ≤ 9999 → natAbs step ≤ 9999 → isMultiple least step ≡ true → inRange least x greatest ≡ true → (inRange least (cut x step) greatest ≡ true) × (isMultiple (cut x step) step ≡ true)

@@ -4,8 +4,10 @@ use mathlib.Core.List.{List}
 use Prim.Native.Nat.{ℕ, zero, suc, _<_, _≤_}
 use native.Mathlib.Omega.{arith}
 use borrow.Author.Tests.{le-leb, lt-leb}
+use lib.Dec.{leb}
 use lib.ListN.{length, take, drop, length-append, length-drop}
 use lib.Seq.{take-append-seam, drop-append-seam}
+use Rattle.refusal.proofs.Logic.{choice}
 use Rattle.refusal.specs.Refusal.{Outcome, refused, gave, numberOf, outcomeOf}
 use Rattle.refusal.specs.Call.{Call, refuses, laid, writes}
 use Rattle.refusal.specs.declared.Refusal.{Refusal}
@@ -33,6 +35,18 @@ laid-front xs out = take-append-seam xs (drop (length xs) out)
 pub laid-behind : (xs out : List ℕ) → drop (length xs) (laid xs out) ≡ drop (length xs) out
 unfolding laid
 laid-behind xs out = drop-append-seam xs (drop (length xs) out)
+
+-- a refusal gives no count
+pub refused-gave : {k n : ℕ} → refused k ≡ gave n → ⊥
+refused-gave e = let z : _≡_ {A = ℕ} 0 1 = cc in omega arith
+
+-- where a count is given, so many at the front of the buffer are what was to be written
+pub gave-front : (xs out : List ℕ) (n : ℕ) → writes xs out .outcome ≡ gave n → take n (writes xs out .buffer) ≡ xs
+unfolding writes
+gave-front xs out n =
+    choice (λ (c : Call). c .outcome ≡ gave n → take n (c .buffer) ≡ xs) (leb (length xs) (length out))
+    (λ t e. let k : n ≡ length xs = cc in ap (λ (j : ℕ). take j (laid xs out)) k ∙ laid-front xs out)
+    (λ t e. absurd (refused-gave e))
 
 -- ---- a number tells which refusal it was, so an outcome tells the whole answer
 

@@ -63,6 +63,16 @@ content-number i mark.Accepted n d e f = rw (e, f)
 content-number i mark.Offered n d e f = rw (e, f)
 content-number i mark.Refused n d e f = rw (e, f)
 
+pub status-content : (i : ℕ) (k : Mark) → fitsContent i k Empty ≡ true → (k ≡ mark.Accepted) × (eqb i question ≡ true)
+unfolding fitsContent
+status-content i mark.Accepted e = (refl, e)
+status-content i mark.Offered e = absurd (false≢true e)
+status-content i mark.Refused e = absurd (false≢true e)
+
+pub content-status : (i : ℕ) → eqb i question ≡ true → fitsContent i mark.Accepted Empty ≡ true
+unfolding fitsContent
+content-status i e = e
+
 pub content-test : (i : ℕ) (k : Mark) (n : ℤ) (d : ℕ) → fitsContent i k (Number n d) ≡ (not (eqb i question) && fits n d)
 unfolding fitsContent
 content-test i mark.Accepted n d = refl

@@ -120,6 +120,18 @@ alone-entry r maker i e q =
 
 -- ---- access
 
+pub read-write-is : (r : Row) → r .access ≡ 2 → isReadWrite r ≡ true
+unfolding isReadWrite
+read-write-is r e = eq-eqb (r .access) 2 e
+
+pub read-only-readable : (r : Row) → r .access ≡ 1 → isReadable r ≡ true
+unfolding isReadable
+read-only-readable r e = rw e
+
+pub read-only-not-read-write : (r : Row) → r .access ≡ 1 → isReadWrite r ≡ false
+unfolding isReadWrite
+read-only-not-read-write r e = rw e
+
 pub read-write-readable : (r : Row) → isReadWrite r ≡ true → isReadable r ≡ true
 unfolding isReadWrite isReadable
 read-write-readable r e = rw (eqb-true (r .access) 2 e)

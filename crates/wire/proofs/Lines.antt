@@ -75,6 +75,10 @@ line-bytes cs =
     ap (λ (n : ℕ). take n (travelling cs ++ drop (length (travelling cs)) (replicate longest 0))) (sym (travelling-length cs))
     ∙ take-append-seam (travelling cs) (drop (length (travelling cs)) (replicate longest 0))
 
+pub empty-bytes : bytesOf empty ≡ []
+unfolding bytesOf empty
+empty-bytes = refl
+
 -- the part of the array that a line's count gives, as the code has it
 pub line-part : (l : Line) (cs : List ℕ) → l ≡ lineOf cs → take (l .len) (l .bytes) ≡ travelling cs
 unfolding bytesOf

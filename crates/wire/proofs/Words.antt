@@ -1,19 +1,19 @@
 -- The laws of parity, at all bytes at once: each is one test that antt computes at every number below 128 or 256.
--- And the words of a slice from an index on. Assumes nothing.
+-- And a test of each of a list, as of the words that may be lent. Assumes nothing.
 use mathlib.Core.Path.{_≡_, refl, sym, ap}
 use mathlib.Core.Bool.{Bool, true, false, cond, _&&_, false≢true}
 use mathlib.Core.List.{List, [], _∷_, _++_}
-use Prim.Native.Nat.{ℕ, _+_, _*_, _%_, _<_, _≤_}
+use Prim.Native.Nat.{ℕ, zero, suc, _+_, _*_, _%_, _<_, _≤_}
 use Prim.Native.Char.{code}
 use native.Mathlib.Numerals.{add-one}
 use native.Mathlib.Omega.{arith}
-use borrow.Author.Tests.{eqb-true, ltb-true}
+use borrow.Author.Tests.{eqb-true, ltb-true, le-leb}
 use lib.Count.{ones, onesIn}
-use lib.Dec.{ltb, eqb}
-use lib.ListN.{length, getD, drop, drop-of-length-le, length-map}
+use lib.Dec.{ltb, leb, eqb}
+use lib.ListN.{length, getD, take, drop, set, replicate, drop-of-length-le, length-map}
 use lib.Seq.{drop-cons}
-use Rattle.refusal.proofs.Logic.{ands, choice, below, allBelow}
-use Rattle.wire.specs.Word.{evenParity, withParity, received, travelling, every}
+use Rattle.refusal.proofs.Logic.{and-left, and-right, ands, and-both, choice, below, allBelow}
+use Rattle.wire.specs.Word.{evenParity, withParity, received, travelling, every, validWords}
 use Rattle.wire.specs.declared.Received.{Received}
 use Rattle.wire.specs.declared.Received.the-variants.{Character, Nothing}
 
@@ -37,9 +37,9 @@ unfolding ones onesIn evenParity received withParity is readable
 travels c h = is-character (received (withParity c)) c (below 128 readable refl c h)
 
 -- what is written is a byte
-pub written-byte : (c : ℕ) → c < 256 → withParity c < 256
-unfolding ones onesIn withParity
-written-byte c h = ltb-true (withParity c) 256 (below 256 (λ (c : ℕ). ltb (withParity c) 256) refl c h)
+pub written-byte : (c : ℕ) → withParity c < 256
+unfolding withParity
+written-byte c = omega arith
 
 -- its seven bits are the character's
 pub written-low : (c : ℕ) → c < 128 → withParity c % 128 ≡ c
@@ -63,19 +63,23 @@ all-written : allBelow 256 written ≡ true
 unfolding ones onesIn evenParity received withParity back written
 all-written = refl
 
-carried-below : (w c : ℕ) → received w ≡ Character c → w < 256
+-- a word that carries a character is a byte, and the character has seven bits
+carried : (w c : ℕ) → received w ≡ Character c → (w < 256) × (c < 128)
 unfolding received
-carried-below w c e =
-    choice (λ (o : Received). o ≡ Character c → w < 256) (ltb w 256 && evenParity w)
-    (λ t q. ltb-true w 256 (search ands)) (λ t q. absurd (never q)) e
+carried w c e =
+    choice (λ (o : Received). o ≡ Character c → (w < 256) × (c < 128)) (ltb w 256 && evenParity w)
+    (λ t q. let k : w % 128 ≡ c = cc in (ltb-true w 256 (search ands), omega arith)) (λ t q. absurd (never q)) e
   where
     never : Nothing ≡ Character c → ⊥
     never q = let z : _≡_ {A = ℕ} 0 1 = cc in omega arith
 
+pub received-small : (w c : ℕ) → received w ≡ Character c → c < 128
+received-small w c e = carried w c e .1
+
 pub only-word : (w c : ℕ) → received w ≡ Character c → w ≡ withParity c
 unfolding written back
 only-word w c e =
-    let t : written w ≡ true = below 256 written all-written w (carried-below w c e) in
+    let t : written w ≡ true = below 256 written all-written w (carried w c e .0) in
     sym (eqb-true (withParity c) w (rw e at t))
 
 -- document 01: "`L` travels as CC hex, `*` as AA, `?` as 3F"
@@ -102,12 +106,13 @@ pub travelling-length : (cs : List ℕ) → length (travelling cs) ≡ length cs
 unfolding travelling
 travelling-length cs = length-map cs withParity
 
--- ---- a test of each, from an index on
+-- ---- a test of each
 
+-- from an index on
 module _ (f : ℕ → Bool) (xs : List ℕ) (i : ℕ) (h : i < length xs) where
-  pub every-first : every f (drop i xs) ≡ f (getD xs i 0) && every f (drop (i + 1) xs)
+  pub every-next : every f (drop i xs) ≡ f (getD xs i 0) && every f (drop (i + 1) xs)
   unfolding every
-  every-first = rw (add-one, drop-cons xs i 0 h) refl
+  every-next = rw (add-one, drop-cons xs i 0 h) refl
 
   pub every-more : f (getD xs i 0) ≡ true → every f (drop i xs) ≡ every f (drop (i + 1) xs)
   unfolding every
@@ -117,6 +122,62 @@ module _ (f : ℕ → Bool) (xs : List ℕ) (i : ℕ) (h : i < length xs) where
   unfolding every
   every-not e = rw (drop-cons xs i 0 h) (rw e)
 
+pub every-none : (f : ℕ → Bool) → every f [] ≡ true
+unfolding every
+every-none f = refl
+
+pub every-first : (f : ℕ → Bool) (x : ℕ) (xs : List ℕ) → f x ≡ true → every f xs ≡ true → every f (x ∷ xs) ≡ true
+unfolding every
+every-first f x xs p q = and-both p q
+
+pub every-append : (f : ℕ → Bool) (xs ys : List ℕ) → every f xs ≡ true → every f ys ≡ true → every f (xs ++ ys) ≡ true
+unfolding every
+every-append f [] ys p q = q
+every-append f (x ∷ xs) ys p q = and-both (and-left (f x) (every f xs) p) (every-append f xs ys (and-right (f x) (every f xs) p) q)
+
+-- one more of the first, and one less of the rest
+pub every-set : (f : ℕ → Bool) (xs : List ℕ) (n x : ℕ) → every f (take n xs) ≡ true → f x ≡ true → every f (take (suc n) (set xs n x)) ≡ true
+unfolding every
+every-set f [] n x e h = refl
+every-set f (y ∷ ys) zero x e h = rw h
+every-set f (y ∷ ys) (suc n) x e h =
+    and-both (and-left (f y) (every f (take n ys)) e) (every-set f ys n x (and-right (f y) (every f (take n ys)) e) h)
+
+pub every-drop : (f : ℕ → Bool) (xs : List ℕ) (n : ℕ) → every f (drop n xs) ≡ true → every f (drop (suc n) xs) ≡ true
+unfolding every
+every-drop f [] n e = refl
+every-drop f (y ∷ ys) zero e = and-right (f y) (every f ys) e
+every-drop f (y ∷ ys) (suc n) e = every-drop f ys n e
+
+-- equal characters, from an index on
+pub every-replicate : (f : ℕ → Bool) (x : ℕ) → f x ≡ true → (n k : ℕ) → every f (drop n (replicate k x)) ≡ true
+unfolding every
+every-replicate f x e zero zero = refl
+every-replicate f x e zero (suc k) = and-both e (every-replicate f x e zero k)
+every-replicate f x e (suc n) zero = refl
+every-replicate f x e (suc n) (suc k) = every-replicate f x e n k
+
 pub every-done : (f : ℕ → Bool) (xs : List ℕ) (i : ℕ) → length xs ≤ i → every f (drop i xs) ≡ true
 unfolding every
 every-done f xs i h = rw (drop-of-length-le xs h)
+
+-- ---- words that may be lent
+
+pub no-words-valid : validWords [] ≡ true
+unfolding validWords
+no-words-valid = every-none (λ (w : ℕ). leb w 256)
+
+pub word-valid : (w : ℕ) → w ≤ 256 → validWords (w ∷ []) ≡ true
+unfolding validWords
+word-valid w h = every-first (λ (w : ℕ). leb w 256) w [] (le-leb w 256 h) (every-none (λ (w : ℕ). leb w 256))
+
+pub append-valid : (ws vs : List ℕ) → validWords ws ≡ true → validWords vs ≡ true → validWords (ws ++ vs) ≡ true
+unfolding validWords
+append-valid ws vs p q = every-append (λ (w : ℕ). leb w 256) ws vs p q
+
+-- characters as they travel
+pub travelling-valid : (cs : List ℕ) → validWords (travelling cs) ≡ true
+unfolding validWords travelling
+travelling-valid [] = every-none (λ (w : ℕ). leb w 256)
+travelling-valid (c ∷ cs) =
+    every-first (λ (w : ℕ). leb w 256) (withParity c) (travelling cs) (le-leb (withParity c) 256 (omega (arith, written-byte c))) (travelling-valid cs)

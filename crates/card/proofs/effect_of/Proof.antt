@@ -5,7 +5,7 @@ use Rattle.message.specs.declared.Parsed.{Parsed}
 use Rattle.hearing.specs.Hearing.{none}
 use Rattle.card.specs.declared.Card.{Card}
 use Rattle.card.specs.Turn.{effectOf}
-use Rattle.card.proofs.Turns.{effect-unheard, effect-heard}
+use Rattle.card.proofs.Turns.{effect-unheard, effect-index}
 use Rattle.card.proofs.effect_of.Statement.{statement}
 use Rattle.card.proofs.effect_of.Tie as tie
 
@@ -36,7 +36,7 @@ returns-2 c =
     let a = s .args in
     let m = k .before .parsed .given in
     c .act .ensures
-    ∙ effect-heard (a .bench .now) (a .maker .now) (held s) (a .values .now) (a .places .now) (m .0 .0) (s .pre .0) (s .pre .1) (s .pre .2)
+    ∙ effect-index (a .bench .now) (a .maker .now) (held s) (a .values .now) (a .places .now) (m .0 .0) (s .pre .0) (s .pre .1) (s .pre .2)
     ∙ ap (effectOf (a .bench .now) (a .maker .now) (held s) (a .values .now)) (sym (m .1))
 
 pub effect-of-spec : {M : Type 1} → statement M

@@ -89,20 +89,20 @@ loop-again c =
     (filled (words t) (out₀ t) (l .loop .out) (l .loop .at) (l .loop .i) (l .loop .inv) (before-end m) (m .close .result) (closed-is m)
     (p .put .last .1 .0) (p .put .result) (l .before .before .before .pre) (p .put .ensures .0) (p .put .ensures .1))
 
-same-length : tie.Need-same-length Inv-loop μ-loop
-same-length c = c .before .loop .inv .long
+same-length-2 : tie.Need-same-length-2 Inv-loop μ-loop
+same-length-2 c = c .before .loop .inv .long
 
-returns : tie.Need-returns Inv-loop μ-loop
-returns c =
+returns-2 : tie.Need-returns-2 Inv-loop μ-loop
+returns-2 c =
     let l = c .before in
     let a = l .before .before .before .args in
     fill-ends (a .words .now) (a .out .now) (l .loop .out) (l .loop .at) (l .loop .i) (l .loop .inv) (normal-past (a .words .now) (l .loop .i) (c .loop-test .left))
 
-same-length-2 : tie.Need-same-length-2 Inv-loop μ-loop
-same-length-2 c = at-loop (c .before) .loop .inv .long
+same-length : tie.Need-same-length Inv-loop μ-loop
+same-length c = at-loop (c .before) .loop .inv .long
 
-returns-2 : tie.Need-returns-2 Inv-loop μ-loop
-returns-2 c =
+returns : tie.Need-returns Inv-loop μ-loop
+returns c =
     let t = c .before in
     let l = at-loop t in
     fill-ends (words t) (out₀ t) (l .loop .out) (l .loop .at) (l .loop .i) (l .loop .inv) (normal-over (words t) (l .loop .i) (omega (arith, at-is t, c .if1 .taken)))
@@ -116,12 +116,12 @@ fill-spec =
     loop-holds
     new-requires
     to-close-requires
+    same-length
+    returns
     close-requires
     put-requires
     add-i
     loop-less
     loop-again
-    same-length
-    returns
     same-length-2
     returns-2)

@@ -75,12 +75,12 @@ module _ (k : tie.After-count-of Inv-loop μ-loop) where
   length-is : k .count-of .result ≡ length (worth (parse (openOf (next (words closing) (at-loop closing .loop .i) .pending))))
   length-is = k .count-of .ensures ∙ ap (λ (o : Parsed). length (worth o)) (k .before .close .ensures ∙ ap (λ (r : Reached). parse (openOf (r .pending))) (is-next closing))
 
-returns : tie.Need-returns Inv-loop μ-loop
-returns c =
+returns-2 : tie.Need-returns-2 Inv-loop μ-loop
+returns-2 c =
     let k = c .before in
     let t = closing k in
     let l = at-loop t in
-    sym (too-long (words t) (room t) (l .loop .n) (l .loop .i) (l .loop .inv) (before-end k) (k .count-of .result) (length-is k) (c .if2 .taken))
+    too-long (words t) (room t) (l .loop .n) (l .loop .i) (l .loop .inv) (before-end k) (k .count-of .result) (length-is k) (c .if2 .taken)
 
 add-n : tie.Need-add-n Inv-loop μ-loop
 add-n c = omega arith
@@ -99,17 +99,17 @@ loop-again c =
     subst (λ (m : ℕ). Counted (words t) (room t) (l .loop .n + k .count-of .result) (m + 1)) (sym (at-is t))
     (counted (words t) (room t) (l .loop .n) (l .loop .i) (l .loop .inv) (before-end k) (k .count-of .result) (length-is k) (c .if2 .left))
 
-returns-2 : tie.Need-returns-2 Inv-loop μ-loop
-returns-2 c =
-    let l = c .before in
-    let a = l .before .before .args in
-    sym (count-ends (a .words .now) (a .room) (l .loop .n) (l .loop .i) (l .loop .inv) (normal-past (a .words .now) (l .loop .i) (c .loop-test .left)))
-
 returns-3 : tie.Need-returns-3 Inv-loop μ-loop
 returns-3 c =
+    let l = c .before in
+    let a = l .before .before .args in
+    count-ends (a .words .now) (a .room) (l .loop .n) (l .loop .i) (l .loop .inv) (normal-past (a .words .now) (l .loop .i) (c .loop-test .left))
+
+returns : tie.Need-returns Inv-loop μ-loop
+returns c =
     let t = c .before in
     let l = at-loop t in
-    sym (count-ends (words t) (room t) (l .loop .n) (l .loop .i) (l .loop .inv) (normal-over (words t) (l .loop .i) (omega (arith, at-is t, c .if1 .taken))))
+    count-ends (words t) (room t) (l .loop .n) (l .loop .i) (l .loop .inv) (normal-over (words t) (l .loop .i) (omega (arith, at-is t, c .if1 .taken)))
 
 pub measure-spec : {M : Type 1} → statement M
 measure-spec =
@@ -120,13 +120,13 @@ measure-spec =
     loop-holds
     new-requires
     to-close-requires
+    returns
     close-requires
     count-of-requires
     sub-if2
-    returns
+    returns-2
     add-n
     add-i
     loop-less
     loop-again
-    returns-2
     returns-3)

@@ -1,31 +1,23 @@
--- `hearing::normal_form` meets its contract: number 4 by the words, number 5 by the count, and otherwise what was filled in.
+-- `hearing::normal_form` meets its contract: number 4 by the words, number 5 by the room, and otherwise what was filled in.
 -- Assumes nothing.
 use mathlib.Core.Path.{_≡_, sym, ap, _∙_}
-use mathlib.Core.List.{List}
-use Prim.Native.Nat.{ℕ, _≤_}
+use Prim.Native.Nat.{_≤_}
 use lib.ListN.{length}
-use borrow.Author.Tests.{not-true, not-false}
+use borrow.Author.Needs.{needs}
+use borrow.Author.Tests.{leb-true, leb-false, not-true, not-false}
 use Rattle.refusal.specs.Refusal.{gave}
 use Rattle.refusal.specs.Call.{Call, writes}
 use Rattle.refusal.proofs.Calls.{writes-all, writes-none}
 use Rattle.hearing.specs.Normal.{normal, normalCall}
-use Rattle.hearing.proofs.Loops.{normal-refused, normal-served, count-fits, count-long}
-use borrow.Author.Needs.{needs}
+use Rattle.hearing.proofs.Loops.{normal-refused, normal-served}
 use Rattle.hearing.proofs.normal_form.Statement.{statement}
 use Rattle.hearing.proofs.normal_form.Tie as tie
 
--- the words passed, and the count
+-- the words passed
 valid : (c : tie.Else1) → normalCall (c .before .before .before .before .args .words .now) (c .before .before .before .before .args .out .now) ≡ writes (normal (c .before .before .before .before .args .words .now)) (c .before .before .before .before .args .out .now)
 valid c =
     let a = c .before .before .before .before .args in
     normal-served (a .words .now) (a .out .now) (sym (c .before .valid-words .ensures) ∙ not-false _ (c .if1 .left))
-
-fits : (c : tie.After-n) → (c .n .given .0 .0 ≡ length (normal (c .before .before .before .before .before .before .before .args .words .now)))
-    × (length (normal (c .before .before .before .before .before .before .before .args .words .now)) ≤ length (c .before .before .before .before .before .before .before .args .out .now))
-fits c =
-    let m = c .before .before in
-    let a = m .before .before .before .before .before .args in
-    count-fits (length (normal (a .words .now))) (length (a .out .now)) _ (sym (m .measure .ensures) ∙ c .n .given .1)
 
 valid-words-requires : tie.Need-valid-words-requires
 valid-words-requires c κs = search needs
@@ -36,36 +28,38 @@ returns c =
     let e = normal-refused (a .words .now) (a .out .now) (sym (c .before .valid-words .ensures) ∙ not-true _ (c .if1 .taken)) in
     (sym (ap (λ (x : Call). x .outcome) e), sym (ap (λ (x : Call). x .buffer) e))
 
-measure-requires : tie.Need-measure-requires
-measure-requires c κs = search needs
-
-enum-known-n : tie.Need-enum-known-n
-enum-known-n c = search needs
-
-enum-told : tie.Need-enum-told
-enum-told c = search needs
+fits-requires : tie.Need-fits-requires
+fits-requires c κs = search needs
 
 returns-2 : tie.Need-returns-2
 returns-2 c =
-    let m = c .before .before in
-    let a = m .before .before .before .before .before .args in
-    let long = count-long (length (normal (a .words .now))) (length (a .out .now)) (sym (m .measure .ensures) ∙ c .enum-told .given .1) in
-    let e = valid (m .before) ∙ writes-none (normal (a .words .now)) (a .out .now) long in
+    let f = c .before in
+    let a = f .before .before .before .before .before .args in
+    let long = leb-false (length (normal (a .words .now))) (length (a .out .now)) (sym (f .fits2 .ensures) ∙ not-true _ (c .if2 .taken)) in
+    let e = valid (f .before) ∙ writes-none (normal (a .words .now)) (a .out .now) long in
     (sym (ap (λ (x : Call). x .outcome) e), sym (ap (λ (x : Call). x .buffer) e))
 
+-- there is room
+room : (c : tie.Else2) → length (normal (c .before .before .before .before .before .before .args .words .now)) ≤ length (c .before .before .before .before .before .before .args .out .now)
+room c =
+    let f = c .before in
+    let a = f .before .before .before .before .before .args in
+    leb-true (length (normal (a .words .now))) (length (a .out .now)) (sym (f .fits2 .ensures) ∙ not-false _ (c .if2 .left))
+
 fill-requires : tie.Need-fill-requires
-fill-requires c κs = fits (c .before .before) .1
+fill-requires c κs = room (c .before)
 
 same-length : tie.Need-same-length
 same-length c = search needs
 
 returns-3 : tie.Need-returns-3
 returns-3 c =
-    let n = c .before .before .before .before .before in
-    let m = n .before .before in
-    let a = m .before .before .before .before .before .args in
-    let e = valid (m .before) ∙ writes-all (normal (a .words .now)) (a .out .now) (fits n .1) in
-    (ap gave (fits n .0) ∙ sym (ap (λ (x : Call). x .outcome) e), c .before .before .fill .ensures ∙ sym (ap (λ (x : Call). x .buffer) e))
+    let k = c .before .before in
+    let r = k .before .before in
+    let f = r .before in
+    let a = f .before .before .before .before .before .args in
+    let e = valid (f .before) ∙ writes-all (normal (a .words .now)) (a .out .now) (room r) in
+    (ap gave (k .fill .ensures .0) ∙ sym (ap (λ (x : Call). x .outcome) e), k .fill .ensures .1 ∙ sym (ap (λ (x : Call). x .buffer) e))
 
 pub normal-form-spec : {M : Type 1} → statement M
 normal-form-spec =
@@ -73,9 +67,7 @@ normal-form-spec =
     (tie.spec
     valid-words-requires
     returns
-    measure-requires
-    enum-known-n
-    enum-told
+    fits-requires
     returns-2
     fill-requires
     same-length

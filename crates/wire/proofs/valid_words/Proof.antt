@@ -7,7 +7,7 @@ use Prim.Native.Nat.{ℕ, _≤_, _+_, _-_}
 use native.Mathlib.Omega.{arith}
 use lib.ListN.{length, drop, getD}
 use Rattle.wire.specs.Word.{every, validWords}
-use Rattle.wire.proofs.Words.{every-first, every-done}
+use Rattle.wire.proofs.Words.{every-next, every-done}
 use Rattle.wire.proofs.valid_words.Statement.{statement}
 use Rattle.wire.proofs.valid_words.Tie as tie
 
@@ -48,7 +48,7 @@ loop-again c =
     let l = c .before .before in
     let xs = l .before .args .words .now in
     let i = l .loop .i in
-    (omega arith, l .loop .inv .1 ∙ ap (λ (b : Bool). l .loop .valid && b) (every-first is-word xs i (c .before .loop-test .taken)) ∙ and-assoc (l .loop .valid) (is-word (getD xs i 0)) (every is-word (drop (i + 1) xs)))
+    (omega arith, l .loop .inv .1 ∙ ap (λ (b : Bool). l .loop .valid && b) (every-next is-word xs i (c .before .loop-test .taken)) ∙ and-assoc (l .loop .valid) (is-word (getD xs i 0)) (every is-word (drop (i + 1) xs)))
 
 returns : tie.Need-returns Inv-loop μ-loop
 unfolding validWords

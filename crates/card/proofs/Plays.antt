@@ -1,28 +1,30 @@
 -- To play words is to obey the messages heard in them, so a recording and its normal form, in which the same messages are heard, leave
 -- the same. And a run with room for every reply is a play of all the words. Assumes nothing.
 use mathlib.Core.Path.{_≡_, refl, sym, ap, _∙_}
-use mathlib.Core.Bool.{true, false, cond}
+use mathlib.Core.Bool.{cond}
 use mathlib.Core.List.{List, [], _∷_, _++_}
 use Prim.Native.Nat.{ℕ, suc, _+_, _-_, _≤_}
 use native.Mathlib.Omega.{arith}
 use borrow.Author.Tests.{le-leb}
+use lib.Dec.{leb}
 use lib.IntN.{ℤ}
 use lib.ListN.{length, length-append}
-use Rattle.wire.specs.Line.{empty, bytesOf}
+use Rattle.wire.specs.Line.{bytesOf}
+use Rattle.wire.proofs.Lines.{empty-bytes}
 use Rattle.message.specs.declared.Message.{Message}
 use Rattle.message.specs.declared.Parsed.{Parsed}
 use Rattle.message.specs.declared.Parsed.the-variants.{Heard, Unheard}
 use Rattle.hearing.specs.declared.Pending.{Pending}
-use Rattle.hearing.specs.Hearing.{none, hear, before, heardFrom, heard}
+use Rattle.hearing.specs.Hearing.{none, hear, before, heardFrom}
 use Rattle.hearing.specs.Normal.{normal}
+use Rattle.hearing.proofs.Heard.{heard-start, heard-end, heard-word, before-heard, before-unheard}
 use Rattle.hearing.proofs.Normal.{heard-normal}
 use Rattle.act.specs.declared.Offer.{Offer}
 use Rattle.act.specs.declared.Effect.{Effect}
 use Rattle.act.specs.Act.{act}
 use Rattle.card.specs.declared.Card.{Card}
 use Rattle.card.specs.declared.Turn.{Turn}
 use Rattle.card.specs.Turn.{replyOf, effectOf, turned, turn, stored, Played, stopped, after, play}
-use Rattle.demands.specs.Terms.{replies}
 
 -- what playing leaves, but for the open message
 pub record Left : Type 0 where
@@ -37,6 +39,16 @@ abbrev lead : List ℕ → Left → Left
 lead bs t = record { offer = t .offer; values = t .values; bytes = bs ++ t .bytes }
 
 module _ (bench maker : List ℤ) where
+  -- ---- word by word
+
+  pub play-word : (c : Card) (values : List ℤ) (room w : ℕ) (ws : List ℕ)
+      → play bench maker c values room (w ∷ ws)
+      ≡ cond (leb (length (bytesOf (turn bench maker c values w .reply))) room)
+      (after (bytesOf (turn bench maker c values w .reply)) (play bench maker (turn bench maker c values w .card) (stored values (turn bench maker c values w .store)) (room - length (bytesOf (turn bench maker c values w .reply))) ws))
+      (stopped c values)
+  unfolding play
+  play-word c values room w ws = refl
+
   -- all words, whatever the room
   unfoldable pub all : Card → List ℤ → List ℕ → Played
   all c values [] = stopped c values
@@ -44,12 +56,15 @@ module _ (bench maker : List ℤ) where
       let t : Turn = turn bench maker c values w in
       after (bytesOf (t .reply)) (all (t .card) (stored values (t .store)) ws)
 
-  pub all-bytes : (c : Card) (values : List ℤ) (ws : List ℕ) → all c values ws .bytes ≡ replies bench maker c values ws
-  unfolding all replies
-  all-bytes c values [] = refl
-  all-bytes c values (w ∷ ws) =
-      let t : Turn = turn bench maker c values w in
-      ap (λ (l : List ℕ). bytesOf (t .reply) ++ l) (all-bytes (t .card) (stored values (t .store)) ws)
+  -- all the replies, one after the other
+  pub no-bytes : (c : Card) (values : List ℤ) → all c values [] .bytes ≡ []
+  unfolding all
+  no-bytes c values = refl
+
+  pub more-bytes : (c : Card) (values : List ℤ) (w : ℕ) (ws : List ℕ)
+      → all c values (w ∷ ws) .bytes ≡ bytesOf (turn bench maker c values w .reply) ++ all (turn bench maker c values w .card) (stored values (turn bench maker c values w .store)) ws .bytes
+  unfolding all
+  more-bytes c values w ws = refl
 
   pub all-taken : (c : Card) (values : List ℤ) (ws : List ℕ) → all c values ws .taken ≡ length ws
   unfolding all
@@ -72,7 +87,7 @@ module _ (bench maker : List ℤ) where
   -- ---- messages in place of words
 
   module _ (letter address : ℕ) where
-    unfoldable pub obey : Offer → List ℤ → List Message → Left
+    unfoldable obey : Offer → List ℤ → List Message → Left
     obey o values [] = record { offer = o; values = values; bytes = [] }
     obey o values (m ∷ ms) =
         let e : Effect = act bench maker letter address o values m in
@@ -81,22 +96,25 @@ module _ (bench maker : List ℤ) where
   obey-before : (c : Card) (values : List ℤ) (p : Parsed) (ms : List Message)
       → obey (c .letter) (c .address) (c .offer) values (before p ms)
       ≡ lead (bytesOf (replyOf (effectOf bench maker c values p .said))) (obey (c .letter) (c .address) (effectOf bench maker c values p .offer) (stored values (effectOf bench maker c values p .store)) ms)
-  unfolding before obey effectOf stored bytesOf empty
-  obey-before c values (Heard m) ms = refl
-  obey-before c values Unheard ms = refl
+  unfolding obey effectOf stored
+  obey-before c values (Heard m) ms = ap (obey (c .letter) (c .address) (c .offer) values) (before-heard m ms)
+  obey-before c values Unheard ms =
+      ap (obey (c .letter) (c .address) (c .offer) values) (before-unheard ms)
+      ∙ ap (λ (b : List ℕ). lead b (obey (c .letter) (c .address) (c .offer) values ms)) (sym empty-bytes)
 
-  pub obeyed : (c : Card) (values : List ℤ) (ws : List ℕ) → leftBy (all c values ws) ≡ obey (c .letter) (c .address) (c .offer) values (heardFrom (c .pending) ws)
-  unfolding all heardFrom obey turn turned
-  obeyed c values [] = refl
+  obeyed : (c : Card) (values : List ℤ) (ws : List ℕ) → leftBy (all c values ws) ≡ obey (c .letter) (c .address) (c .offer) values (heardFrom (c .pending) ws)
+  unfolding all obey turn turned
+  obeyed c values [] = sym (ap (obey (c .letter) (c .address) (c .offer) values) (heard-end (c .pending)))
   obeyed c values (w ∷ ws) =
       let t : Turn = turn bench maker c values w in
       ap (lead (bytesOf (t .reply))) (obeyed (t .card) (stored values (t .store)) ws)
       ∙ sym (obey-before c values (hear (c .pending) w .message) (heardFrom (hear (c .pending) w .pending) ws))
+      ∙ ap (obey (c .letter) (c .address) (c .offer) values) (sym (heard-word (c .pending) w ws))
 
   -- a recording and its normal form, from one card with no message open
   pub left-alike : (c : Card) (values : List ℤ) (ws : List ℕ) → c .pending ≡ none → leftBy (all c values ws) ≡ leftBy (all c values (normal ws))
-  unfolding heard
   left-alike c values ws e =
+      let same : heardFrom none ws ≡ heardFrom none (normal ws) = sym (heard-start ws) ∙ sym (heard-normal ws) ∙ heard-start (normal ws) in
       obeyed c values ws
-      ∙ ap (obey (c .letter) (c .address) (c .offer) values) (ap (λ (p : Pending). heardFrom p ws) e ∙ sym (heard-normal ws) ∙ ap (λ (p : Pending). heardFrom p (normal ws)) (sym e))
+      ∙ ap (obey (c .letter) (c .address) (c .offer) values) (ap (λ (p : Pending). heardFrom p ws) e ∙ same ∙ ap (λ (p : Pending). heardFrom p (normal ws)) (sym e))
       ∙ sym (obeyed c values (normal ws))

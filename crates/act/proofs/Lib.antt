@@ -1,0 +1,2 @@
+pub mod OnOffer
+pub mod Effects

@@ -1,0 +1,154 @@
+-- What a sound card and a sound offer are, by their parts, and what a word leaves of a sound card with sound values: both are sound
+-- again, no place without a row is touched, and what the card says is an answer as the reader knows them. Assumes nothing.
+use mathlib.Core.Path.{_≡_, refl, sym, ap, _∙_}
+use mathlib.Core.Bool.{true, false≢true}
+use mathlib.Core.List.{List}
+use Prim.Native.Nat.{ℕ}
+use native.Mathlib.Omega.{arith}
+use lib.IntN.{ℤ, pos}
+use lib.ListN.{getD}
+use Rattle.refusal.proofs.Logic.{ands, and-both}
+use Rattle.message.specs.declared.Message.{Message}
+use Rattle.message.specs.declared.Parsed.{Parsed}
+use Rattle.message.specs.declared.Parsed.the-variants.{Heard, Unheard}
+use Rattle.message.specs.Message.{isLetter, isAddress}
+use Rattle.message.proofs.Messages.{parts}
+use Rattle.message.proofs.Reading.{Heard-is}
+use Rattle.hearing.specs.Hearing.{hear}
+use Rattle.hearing.specs.Sound.{soundPending}
+use Rattle.hearing.proofs.Heard.{hear-message}
+use Rattle.hearing.proofs.Sound.{hear-sound}
+use Rattle.sheet.specs.declared.Row.{Row}
+use Rattle.sheet.specs.declared.Entry.{Entry}
+use Rattle.sheet.specs.declared.Entry.the-variants.{Found, Missing}
+use Rattle.sheet.specs.Values.{entryIn, isWritable, soundValues}
+use Rattle.sheet.proofs.Values.{entry-sound, cut-fits, set-sound, set-elsewhere}
+use Rattle.reply.specs.declared.Answer.{Answer}
+use Rattle.reply.specs.Reply.{isAnswer}
+use Rattle.act.specs.declared.Offer.{Offer}
+use Rattle.act.specs.declared.Offer.the-variants.{Nothing, Held}
+use Rattle.act.specs.declared.Said.the-variants.{Reply}
+use Rattle.act.specs.declared.Store.{Store}
+use Rattle.act.specs.declared.Store.the-variants.{Keep, Put}
+use Rattle.act.specs.Act.{act}
+use Rattle.act.proofs.OnOffer.{Leaves, act-leaves}
+use Rattle.act.proofs.Effects.{Allowed, Fair, Good, good-silence, good-act}
+use Rattle.card.specs.declared.Card.{Card}
+use Rattle.card.specs.Turn.{effectOf, turn, stored}
+use Rattle.card.specs.Sound.{soundCard, offerable, soundOffer}
+use Rattle.card.proofs.Turns.{turn-card, turn-store}
+
+-- ---- a sound card
+
+pub record CardParts (c : Card) : Type 0 where
+  pub is-letter : isLetter (c .letter) ≡ true
+  pub is-address : isAddress (c .address) ≡ true
+  pub is-open : soundPending (c .pending) ≡ true
+
+pub card-parts : (c : Card) → soundCard c ≡ true → CardParts c
+unfolding soundCard
+card-parts c e = record { is-letter = search ands; is-address = search ands; is-open = search ands }
+
+pub parts-card : (c : Card) → CardParts c → soundCard c ≡ true
+unfolding soundCard
+parts-card c p = and-both (and-both (p .is-letter) (p .is-address)) (p .is-open)
+
+-- ---- a sound offer
+
+pub nothing-sound : (bench maker : List ℤ) → soundOffer bench maker Nothing ≡ true
+unfolding soundOffer
+nothing-sound bench maker = refl
+
+-- the row of i is not read only, and allows the value z
+pub record Offerable (bench maker : List ℤ) (i : ℕ) (z : ℤ) : Type 0 where
+  pub allowed : Allowed bench maker i z
+  pub writable : isWritable (allowed .row) ≡ true
+
+module _ (bench maker : List ℤ) where
+  pub offer-parts : (i : ℕ) (z : ℤ) → soundOffer bench maker (Held i z) ≡ true → Offerable bench maker i z
+  unfolding soundOffer offerable
+  offer-parts i z h = go (entryIn bench maker i) refl h
+    where
+      go : (e : Entry) → entryIn bench maker i ≡ e → offerable e z ≡ true → Offerable bench maker i z
+      go (Found r) f q = record { allowed = record { row = r; found = f; fits = search ands }; writable = search ands }
+      go Missing f q = absurd (false≢true q)
+
+  pub parts-offer : (i : ℕ) (z : ℤ) → Offerable bench maker i z → soundOffer bench maker (Held i z) ≡ true
+  unfolding soundOffer offerable
+  parts-offer i z p = rw (p .allowed .found) (and-both (p .writable) (p .allowed .fits))
+
+  offer-fair : (o : Offer) → soundOffer bench maker o ≡ true → Fair bench maker o
+  offer-fair Nothing h = tt
+  offer-fair (Held i z) h = offer-parts i z h .allowed
+
+  -- what a message leaves on offer
+  pub leaves-sound : (m : Message) (i : ℕ) (z : ℤ) → Leaves bench maker m i z → soundOffer bench maker (Held i z) ≡ true
+  leaves-sound m i z l =
+      let r = l .row in
+      let f : entryIn bench maker i ≡ Found r = ap (entryIn bench maker) (sym (l .its)) ∙ l .found in
+      let c = cut-fits r (entry-sound bench maker i r f) (l .number) (l .in-range) in
+      parts-offer i z (record { allowed = record { row = r; found = f; fits = rw (l .value) at c }; writable = l .writable })
+
+  act-sound : (letter address : ℕ) (o : Offer) (values : List ℤ) (m : Message) → soundOffer bench maker (act bench maker letter address o values m .offer) ≡ true
+  act-sound letter address o values m = go (act bench maker letter address o values m .offer) refl
+    where
+      go : (x : Offer) → act bench maker letter address o values m .offer ≡ x → soundOffer bench maker x ≡ true
+      go Nothing e = nothing-sound bench maker
+      go (Held i z) e = leaves-sound m i z (act-leaves bench maker m letter address o values i z e)
+
+-- ---- values after a store
+
+module _ (bench maker values : List ℤ) where
+  -- what it stores, the row allows
+  abbrev Stores : Store → Type 0
+  Stores s = (i : ℕ) (z : ℤ) → s ≡ Put i z → Allowed bench maker i z
+
+  stored-sound : soundValues bench maker values ≡ true → (s : Store) → Stores s → soundValues bench maker (stored values s) ≡ true
+  unfolding stored
+  stored-sound v Keep h = v
+  stored-sound v (Put i z) h = let a = h i z refl in set-sound bench maker values i (a .row) z v (a .found) (a .fits)
+
+  stored-elsewhere : (s : Store) → Stores s → (k : ℕ) → entryIn bench maker k ≡ Missing → getD (stored values s) k (pos 0) ≡ getD values k (pos 0)
+  unfolding stored
+  stored-elsewhere Keep h k e = refl
+  stored-elsewhere (Put i z) h k e =
+      let a = h i z refl in
+      set-elsewhere values i k z (λ (q : k ≡ i). never (a .row) (sym (a .found) ∙ ap (entryIn bench maker) (sym q) ∙ e))
+    where
+      never : (r : Row) → Found r ≡ Missing → ⊥
+      never r e = let n : _≡_ {A = ℕ} 0 1 = cc in omega arith
+
+-- ---- a word
+
+module _ (bench maker : List ℤ) (c : Card) (values : List ℤ) (h : soundOffer bench maker (c .offer) ≡ true) where
+  effect-offer : (p : Parsed) → soundOffer bench maker (effectOf bench maker c values p .offer) ≡ true
+  unfolding effectOf
+  effect-offer (Heard m) = act-sound bench maker (c .letter) (c .address) (c .offer) values m
+  effect-offer Unheard = h
+
+  module _ (v : soundValues bench maker values ≡ true) where
+    effect-good : (p : Parsed) → Heard-is p → Good bench maker (effectOf bench maker c values p)
+    unfolding effectOf
+    effect-good (Heard m) e = good-act bench maker values v m (parts m e) (c .letter) (c .address) (c .offer) (offer-fair bench maker (c .offer) h)
+    effect-good Unheard e = good-silence bench maker (c .offer)
+
+    module _ (w : ℕ) where
+      word-good : Good bench maker (effectOf bench maker c values (hear (c .pending) w .message))
+      word-good = effect-good (hear (c .pending) w .message) (hear-message (c .pending) w)
+
+      pub said-answer : (a : Answer) → effectOf bench maker c values (hear (c .pending) w .message) .said ≡ Reply a → isAnswer a ≡ true
+      said-answer = word-good .answers
+
+      pub values-stay : soundValues bench maker (stored values (turn bench maker c values w .store)) ≡ true
+      values-stay = rw (turn-store bench maker c values w) (stored-sound bench maker values v _ (word-good .stores))
+
+      pub places-stay : (i : ℕ) → entryIn bench maker i ≡ Missing → getD (stored values (turn bench maker c values w .store)) i (pos 0) ≡ getD values i (pos 0)
+      places-stay i e = rw (turn-store bench maker c values w) (stored-elsewhere bench maker values _ (word-good .stores) i e)
+
+  pub offer-stays : (w : ℕ) → soundOffer bench maker (turn bench maker c values w .card .offer) ≡ true
+  offer-stays w = rw (turn-card bench maker c values w) (effect-offer (hear (c .pending) w .message))
+
+pub card-stays : (bench maker : List ℤ) (c : Card) (values : List ℤ) (w : ℕ) → soundCard c ≡ true → soundCard (turn bench maker c values w .card) ≡ true
+card-stays bench maker c values w e =
+    let p = card-parts c e in
+    rw (turn-card bench maker c values w) (parts-card _ (record { is-letter = p .is-letter; is-address = p .is-address; is-open = hear-sound (c .pending) w (p .is-open) }))
