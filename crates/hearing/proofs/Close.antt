@@ -5,9 +5,9 @@ use mathlib.Core.List.{List, [], _∷_}
 use Prim.Native.Nat.{ℕ, suc, _+_, _<_, _≤_}
 use native.Mathlib.Numerals.{add-one}
 use native.Mathlib.Omega.{arith}
-use borrow.Author.Tests.{lt-ltb, le-ltb, ltb-true, ltb-false}
+use borrow.Author.Tests.{ltb-true, ltb-false}
 use lib.Dec.{ltb}
-use lib.ListN.{length, getD, drop, set, replicate, drop-of-length-le}
+use lib.ListN.{length, getD, drop, drop-of-length-le}
 use lib.Seq.{drop-cons}
 use Rattle.refusal.proofs.Logic.{choice}
 use Rattle.message.specs.declared.Parsed.the-variants.{Unheard}
@@ -16,7 +16,7 @@ use Rattle.hearing.specs.declared.Pending.{Pending}
 use Rattle.hearing.specs.declared.Action.{Action}
 use Rattle.hearing.specs.declared.Action.the-variants.{Ignore, Open, Add, Close, Drop}
 use Rattle.hearing.specs.declared.Reached.{Reached}
-use Rattle.hearing.specs.Hearing.{most, none, added, openOf, actionOf, perform, hear, closes, toClose}
+use Rattle.hearing.specs.Hearing.{none, openOf, actionOf, perform, hear, closes, leftBy, toClose}
 
 module _ (p : Pending) (ws : List ℕ) (i : ℕ) where
   -- the next word, and what it does
@@ -29,34 +29,24 @@ module _ (p : Pending) (ws : List ℕ) (i : ℕ) where
   at-end h = rw (drop-of-length-le ws h)
 
   module _ (h : i < length ws) where
-    pub at-close : actionOf p word ≡ Close → toClose p (drop i ws) i ≡ record { pending = p; at = i }
+    pub at-close : closes (actionOf p word) ≡ true → toClose p (drop i ws) i ≡ record { pending = p; at = i }
     unfolding toClose
     at-close e = rw (drop-cons ws i 0 h) (rw e)
 
     -- any other word is taken
-    pub at-other : (a : Action) → actionOf p word ≡ a → closes a ≡ false → toClose p (drop i ws) i ≡ toClose (perform p a .pending) (drop (i + 1) ws) (i + 1)
-    unfolding toClose hear
-    at-other a e f = rw (drop-cons ws i 0 h) (rw (e, f, add-one i) refl)
+    pub at-other : closes (actionOf p word) ≡ false → toClose p (drop i ws) i ≡ toClose (leftBy p (actionOf p word)) (drop (i + 1) ws) (i + 1)
+    unfolding toClose hear leftBy
+    at-other f = rw (drop-cons ws i 0 h) (rw (f, add-one i) refl)
 
-    pub at-ignore : actionOf p word ≡ Ignore → toClose p (drop i ws) i ≡ toClose p (drop (i + 1) ws) (i + 1)
-    unfolding perform
-    at-ignore e = at-other Ignore e refl
+-- a word that closes the message leaves it
+pub left-closed : (p : Pending) (a : Action) → closes a ≡ true → leftBy p a ≡ p
+unfolding leftBy
+left-closed p a e = rw e refl
 
-    pub at-open : (c : ℕ) → actionOf p word ≡ Open c → toClose p (drop i ws) i ≡ toClose (record { chars = set (replicate most 0) 0 c; len = 1 }) (drop (i + 1) ws) (i + 1)
-    unfolding perform added none
-    at-open c e = at-other (Open c) e refl
-
-    pub at-add : (c : ℕ) → actionOf p word ≡ Add c → p .len < most → toClose p (drop i ws) i ≡ toClose (record { chars = set (p .chars) (p .len) c; len = p .len + 1 }) (drop (i + 1) ws) (i + 1)
-    unfolding perform added
-    at-add c e l = at-other (Add c) e refl ∙ rw (lt-ltb (p .len) most l) refl
-
-    pub at-full : (c : ℕ) → actionOf p word ≡ Add c → most ≤ p .len → toClose p (drop i ws) i ≡ toClose (record { chars = replicate most 0; len = 0 }) (drop (i + 1) ws) (i + 1)
-    unfolding perform added none
-    at-full c e l = at-other (Add c) e refl ∙ rw (le-ltb (p .len) most l) refl
-
-    pub at-drop : actionOf p word ≡ Drop → toClose p (drop i ws) i ≡ toClose (record { chars = replicate most 0; len = 0 }) (drop (i + 1) ws) (i + 1)
-    unfolding perform none
-    at-drop e = at-other Drop e refl
+-- any other leaves what is heard on
+pub left-other : (p : Pending) (w : ℕ) → closes (actionOf p w) ≡ false → leftBy p (actionOf p w) ≡ hear p w .pending
+unfolding leftBy hear
+left-other p w e = rw e refl
 
 -- ---- where the words reach
 
@@ -65,7 +55,7 @@ unfolding hear perform
 close-hears p w e = rw e refl
 
 -- what keeps a message open, opens one or drops one is not heard
-other-unheard : (p : Pending) (w : ℕ) → closes (actionOf p w) ≡ false → hear p w .message ≡ Unheard
+pub other-unheard : (p : Pending) (w : ℕ) → closes (actionOf p w) ≡ false → hear p w .message ≡ Unheard
 unfolding hear perform
 other-unheard p w e = go (actionOf p w) e
   where

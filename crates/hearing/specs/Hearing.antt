@@ -16,6 +16,7 @@ use Rattle.hearing.specs.declared.Pending.{Pending}
 use Rattle.hearing.specs.declared.Action.{Action}
 use Rattle.hearing.specs.declared.Action.the-variants.{Ignore, Open, Add, Close, Drop}
 use Rattle.hearing.specs.declared.Hearing.{Hearing}
+use Rattle.hearing.specs.declared.Next.{Next}
 use Rattle.hearing.specs.declared.Reached.{Reached}
 
 -- document 01: "A message holds at most 10 characters before `*`"
@@ -81,6 +82,16 @@ closes (Open c) = false
 closes (Add c) = false
 closes Close = true
 closes Drop = false
+
+-- the open message after a word; one that the word closes is left open
+unfoldable pub leftBy : Pending → Action → Pending
+leftBy p a = cond (closes a) p (perform p a .pending)
+
+abbrev pub nextOf : Pending → ℕ → Next
+nextOf p w = record { len = leftBy p (actionOf p w) .len; closes = closes (actionOf p w) }
+
+abbrev pub charsOf : Pending → ℕ → List ℕ
+charsOf p w = leftBy p (actionOf p w) .chars
 
 -- up to a word that closes the open message, or behind the last: the message open there, and the place
 unfoldable pub toClose : Pending → List ℕ → ℕ → Reached

@@ -8,7 +8,7 @@ ghost use Rattle.refusal.specs.Refusal.{outcomeOf};
 ghost use Rattle.refusal.specs.Call.{laid};
 ghost use Rattle.wire.specs.Word.{received};
 ghost use Rattle.wire.specs.Line.{placed};
-ghost use Rattle.hearing.specs.Hearing.{none, added, openOf, opening, continuing, actionOf, perform, hear, toClose};
+ghost use Rattle.hearing.specs.Hearing.{none, added, openOf, opening, continuing, actionOf, perform, hear, nextOf, charsOf, toClose};
 ghost use Rattle.hearing.specs.Sound.{plain, zeros, soundPending};
 ghost use Rattle.hearing.specs.Normal.{worth, normal, normalCall};
 ghost use Rattle.message.specs.Scan.{parse};
@@ -183,6 +183,52 @@ fn action_at(len: usize, word: u16) -> Action
     }
 }
 
+// The count of open characters after a word, or that the word closes the message.
+pub struct Next {
+    pub len: usize,
+    pub closes: bool,
+}
+
+// What a word does to an open message in its own place. A `*` that closes it leaves it for the caller to read.
+pub fn take(chars: &mut [u8; MOST], len: usize, word: u16) -> Next
+    ensures { λ r. ⌜ (r ≡ nextOf (record { chars = now (chars .entry); len = len }) word) × (now (chars .exit) ≡ charsOf (record { chars = now (chars .entry); len = len }) word) ⌝ }
+{
+    let action = action_at(len, word);
+    match action {
+        Action::Ignore => Next { len, closes: false },
+        Action::Open(c) => {
+            *chars = [0u8; MOST];
+            chars[0] = c;
+            Next {
+                len: 1,
+                closes: false,
+            }
+        }
+        Action::Add(c) => {
+            if len < MOST {
+                chars[len] = c;
+                return Next {
+                    len: len + 1,
+                    closes: false,
+                };
+            }
+            *chars = [0u8; MOST];
+            Next {
+                len: 0,
+                closes: false,
+            }
+        }
+        Action::Close => Next { len, closes: true },
+        Action::Drop => {
+            *chars = [0u8; MOST];
+            Next {
+                len: 0,
+                closes: false,
+            }
+        }
+    }
+}
+
 // Takes the words from a place on, up to a `*` that closes the open message: that one is left. No message is heard on the way.
 pub fn to_close(pending: Pending, words: &[u16], from: usize) -> Reached
     ensures { λ r. ⌜ r ≡ toClose pending (drop from (now (words .entry))) from ⌝ }
@@ -191,31 +237,11 @@ pub fn to_close(pending: Pending, words: &[u16], from: usize) -> Reached
     let mut len = pending.len;
     let mut at = from;
     while at < words.len() {
-        let action = action_at(len, words[at]);
-        match action {
-            Action::Ignore => {}
-            Action::Open(c) => {
-                chars = [0u8; MOST];
-                chars[0] = c;
-                len = 1;
-            }
-            Action::Add(c) => {
-                if len < MOST {
-                    chars[len] = c;
-                    len += 1;
-                } else {
-                    chars = [0u8; MOST];
-                    len = 0;
-                }
-            }
-            Action::Close => {
-                break;
-            }
-            Action::Drop => {
-                chars = [0u8; MOST];
-                len = 0;
-            }
+        let next = take(&mut chars, len, words[at]);
+        if next.closes {
+            break;
         }
+        len = next.len;
         at += 1;
     }
     let pending = Pending { chars, len };

@@ -12,6 +12,7 @@ ghost use Rattle.message.specs.Spell.{spellAddress};
 ghost use Rattle.listing.specs.Text.{longest, Room, Before, Holds};
 ghost use Rattle.listing.specs.Line.{decimal, kindAndData, line, lineCall};
 ghost use Rattle.listing.specs.Listing.{heading, wordOf, start, lineAt, fitsBehind, stepped, lastLine, listed, answerOf};
+use hearing::MOST;
 use hearing::Pending;
 use message::Body;
 use message::Message;
@@ -292,29 +293,54 @@ fn step_of(progress: Progress, written: usize, fits: bool) -> Step
 }
 
 // The lines of a buffer of words, two bytes each, from the front of `out` on. Words are taken until fewer than two bytes are left,
-// a word is above 256, or its line no longer fits. The next call begins behind the words taken, with the progress given.
+// a word is above 256, or its line no longer fits. The next call begins behind the words taken, with the progress given. Only a
+// word that closes a message can have a line.
 pub fn list(progress: Progress, bytes: &[u8], out: &mut [u8]) -> Listed
     ensures answers { λ r. ⌜ r ≡ answerOf (listed progress (now (bytes .entry)) (length (now (out .entry)))) ⌝ }
     ensures leaves { λ r. ⌜ now (out .exit) ≡ laid (listed progress (now (bytes .entry)) (length (now (out .entry))) .text) (now (out .entry)) ⌝ }
 {
     let words = bytes.len() / 2;
-    let mut progress = progress;
+    let before = progress.pending;
+    let mut chars = before.chars;
+    let mut len = before.len;
+    let mut at = progress.at;
+    let mut count = progress.count;
     let mut written = 0;
     let mut taken = 0;
     while taken < words {
         let word = word_at(bytes, taken);
         if 256 < word {
-            return stopped(progress, taken, written, Stop::Bad);
+            return stopped(so_far(chars, len, at, count), taken, written, Stop::Bad);
         }
-        let step = take_word(progress, word, out, written);
+        let next = hearing::take(&mut chars, len, word);
+        if !next.closes {
+            len = next.len;
+            at = std::num::wrapping_add_u64(at, 1);
+            taken += 1;
+            continue;
+        }
+        let step = take_word(so_far(chars, len, at, count), word, out, written);
         if !step.fits {
-            return stopped(progress, taken, written, Stop::Full);
+            return stopped(so_far(chars, len, at, count), taken, written, Stop::Full);
         }
-        progress = step.progress;
+        let after = step.progress;
+        let open = after.pending;
+        chars = open.chars;
+        len = open.len;
+        at = after.at;
+        count = after.count;
         written = step.written;
         taken += 1;
     }
-    stopped(progress, taken, written, Stop::Done)
+    stopped(so_far(chars, len, at, count), taken, written, Stop::Done)
+}
+
+// How far the listing is, from its parts.
+fn so_far(chars: [u8; MOST], len: usize, at: u64, count: u64) -> Progress
+    ensures { λ r. ⌜ r ≡ record { pending = record { chars = chars; len = len }; at = at; count = count } ⌝ }
+{
+    let pending = Pending { chars, len };
+    Progress { pending, at, count }
 }
 
 fn stopped(progress: Progress, taken: usize, written: usize, stop: Stop) -> Listed

@@ -1,56 +1,68 @@
 -- `listing::list` meets its contract. The loop's invariant: what is written and what is still to come are the whole, and what lies
 -- behind is as it was. Assumes nothing.
-use mathlib.Core.Path.{_∙_}
-use Prim.Native.Nat.{_-_}
+use mathlib.Core.Path.{_≡_, refl, sym, ap, ap₂, _∙_, subst}
+use mathlib.Core.Bool.{Bool, true, false}
+use mathlib.Core.List.{List}
+use mathlib.Core.Logic.{⊎-elim}
+use Prim.Native.Nat.{ℕ, _+_, _-_, _<_, _≤_}
 use native.Mathlib.Omega.{arith}
+use borrow.Author.Needs.{needs}
 use borrow.Author.Tests.{not-true, not-false}
-use Rattle.listing.proofs.Loops.{Taken, takes, took, stops-bad, stops-full, stops-done}
+use Rattle.hearing.specs.declared.Pending.{Pending}
+use Rattle.hearing.specs.declared.Next.{Next}
+use Rattle.hearing.specs.Hearing.{actionOf, hear, closes, leftBy}
+use Rattle.hearing.proofs.Close.{left-closed, left-other, other-unheard}
+use Rattle.listing.specs.declared.Progress.{Progress}
+use Rattle.listing.specs.declared.Step.{Step}
+use Rattle.listing.specs.declared.Stop.the-variants.{Done, Bad, Full}
+use Rattle.listing.specs.Listing.{next}
+use Rattle.listing.proofs.Loops.{Taken, takes, StepIs, step-unheard, stops-bad, stops-full, stops-done, took}
 use Rattle.listing.proofs.list.Statement.{statement}
 use Rattle.listing.proofs.list.Tie as tie
 
+abbrev progressOf : List ℕ → ℕ → ℕ → ℕ → Progress
+progressOf chars len at count = record { pending = record { chars = chars; len = len }; at = at; count = count }
+
 abbrev Inv-loop : tie.InvT-loop
-Inv-loop bytes out₀ words progress₀ written₀ taken₀ out progress written taken = Taken progress₀ bytes out₀ out progress written taken
+Inv-loop bytes out₀ words chars₀ len₀ at₀ count₀ written₀ taken₀ out chars len at count written taken =
+    Taken (progressOf chars₀ len₀ at₀ count₀) bytes out₀ out (progressOf chars len at count) written taken
 
 abbrev μ-loop : tie.MeasureT-loop
-μ-loop bytes out₀ words progress₀ written₀ taken₀ out progress written taken = words - taken
+μ-loop bytes out₀ words chars₀ len₀ at₀ count₀ written₀ taken₀ out chars len at count written taken = words - taken
 
 loop-holds : tie.Need-loop-holds Inv-loop μ-loop
-loop-holds c = takes (c .before .before .args .progress) (c .before .before .args .bytes .now) (c .before .before .args .out .now)
+loop-holds c = let a = c .before .before .before .before .args in takes (a .progress) (a .bytes .now) (a .out .now)
 
 word-at-requires : tie.Need-word-at-requires Inv-loop μ-loop
 word-at-requires c κs = omega arith
 
+so-far-requires : tie.Need-so-far-requires Inv-loop μ-loop
+so-far-requires c κs = search needs
+
 stopped-requires : tie.Need-stopped-requires Inv-loop μ-loop
-stopped-requires c κs = tt
+stopped-requires c κs = search needs
+
+-- the word, as the code has it
+module _ (wa : tie.After-word-at Inv-loop μ-loop) where
+  abbrev at-loop-of-word : tie.At-loop Inv-loop μ-loop
+  at-loop-of-word = wa .before .before
 
 same-length : tie.Need-same-length Inv-loop μ-loop
-same-length c = c .before .before .before .before .loop .inv .long
+same-length c = at-loop-of-word (c .before .before .before) .loop .inv .long
 
 returns : tie.Need-returns Inv-loop μ-loop
 returns c =
-    let wa = c .before .before in
-    let l = wa .before .before in
-    let s = l .before .before .before in
-    stops-bad (s .args .progress) (s .args .bytes .now) (s .args .out .now) (l .loop .out) (l .loop .progress) (l .loop .written) (l .loop .taken) (l .loop .inv) (wa .word-at .result) (wa .word-at .ensures) (wa .before .loop-test .taken)
-    (c .stopped .result) (c .stopped .ensures) (c .before .if1 .taken)
+    let wa = c .before .before .before in
+    let l = at-loop-of-word wa in
+    let a = l .before .before .before .before .before .args in
+    stops-bad (a .progress) (a .bytes .now) (a .out .now) (l .loop .out) (progressOf (l .loop .chars) (l .loop .len) (l .loop .at) (l .loop .count)) (l .loop .written) (l .loop .taken) (l .loop .inv) (wa .word-at .result) (wa .word-at .ensures) (wa .before .loop-test .taken)
+    (c .stopped .result) (c .stopped .ensures ∙ ap (λ (p : Progress). record { progress = p; taken = l .loop .taken; written = l .loop .written; stop = Bad }) (c .before .so-far .ensures)) (c .before .before .if1 .taken)
 
-take-word-requires : tie.Need-take-word-requires Inv-loop μ-loop
-take-word-requires c κs = omega arith
+take-requires : tie.Need-take-requires Inv-loop μ-loop
+take-requires c κs = search needs
 
-stopped-requires-2 : tie.Need-stopped-requires-2 Inv-loop μ-loop
-stopped-requires-2 c κs = tt
-
-same-length-2 : tie.Need-same-length-2 Inv-loop μ-loop
-same-length-2 c = c .before .before .before .before .before .take-word .kept .1 .1 .0 ∙ c .before .before .before .before .before .before .before .before .before .before .loop .inv .long
-
-returns-2 : tie.Need-returns-2 Inv-loop μ-loop
-returns-2 c =
-    let tw = c .before .before .before .before .before in
-    let wa = tw .before .before .before in
-    let l = wa .before .before in
-    let s = l .before .before .before in
-    stops-full (s .args .progress) (s .args .bytes .now) (s .args .out .now) (l .loop .out) (l .loop .progress) (l .loop .written) (l .loop .taken) (l .loop .inv) (wa .word-at .result) (wa .word-at .ensures) (wa .before .loop-test .taken)
-    (tw .before .before .if1 .left) (tw .take-word .result) (tw .take-word .ensures .0) (tw .take-word .last .1 .1 .0) (c .stopped2 .result) (c .stopped2 .ensures) (not-true _ (c .before .if2 .taken)) (tw .take-word .ensures .1)
+wrapping-add-u64-requires : tie.Need-wrapping-add-u64-requires Inv-loop μ-loop
+wrapping-add-u64-requires c κs = search needs
 
 add-taken : tie.Need-add-taken Inv-loop μ-loop
 add-taken c = omega arith
@@ -58,26 +70,126 @@ add-taken c = omega arith
 loop-less : tie.Need-loop-less Inv-loop μ-loop
 loop-less c = omega arith
 
+-- a word is taken: the progress before it, and what it leaves open
+module _ (t : tie.After-take Inv-loop μ-loop) where
+  abbrev word-read : tie.After-word-at Inv-loop μ-loop
+  word-read = t .before .before .before
+
+  abbrev at-loop : tie.At-loop Inv-loop μ-loop
+  at-loop = at-loop-of-word word-read
+
+  abbrev start : tie.Start Inv-loop μ-loop
+  start = at-loop .before .before .before .before .before
+
+  abbrev word : ℕ
+  word = word-read .word-at .result
+
+  abbrev here : Progress
+  here = progressOf (at-loop .loop .chars) (at-loop .loop .len) (at-loop .loop .at) (at-loop .loop .count)
+
+  told : closes (actionOf (here .pending) word) ≡ t .take .result .closes
+  told = sym (ap (λ (n : Next). n .closes) (t .take .ensures .0))
+
+  -- a word that doesn't close the message is heard on
+  left-open : t .take .result .closes ≡ false → record { chars = t .take .last .0; len = t .take .result .len } ≡ hear (here .pending) word .pending
+  left-open f =
+      ap₂ (λ (x : List ℕ) (n : ℕ). record { chars = x; len = n }) (t .take .ensures .1) (ap (λ (n : Next). n .len) (t .take .ensures .0))
+      ∙ left-other (here .pending) word (told ∙ f)
+
+  -- one that does leaves it as it is
+  left-as-it-was : t .take .result .closes ≡ true → progressOf (t .take .last .0) (at-loop .loop .len) (at-loop .loop .at) (at-loop .loop .count) ≡ here
+  left-as-it-was f =
+      ap (λ (x : List ℕ). progressOf x (at-loop .loop .len) (at-loop .loop .at) (at-loop .loop .count))
+      (t .take .ensures .1 ∙ ap (λ (p : Pending). p .chars) (left-closed (here .pending) (actionOf (here .pending) word) (told ∙ f)))
+
 loop-again : tie.Need-loop-again Inv-loop μ-loop
+unfolding next
 loop-again c =
-    let tw = c .before .before .before .before .before in
-    let wa = tw .before .before .before in
-    let l = wa .before .before in
-    let s = l .before .before .before in
-    took (s .args .progress) (s .args .bytes .now) (s .args .out .now) (l .loop .out) (l .loop .progress) (l .loop .written) (l .loop .taken) (l .loop .inv) (wa .word-at .result) (wa .word-at .ensures) (wa .before .loop-test .taken)
-    (tw .before .before .if1 .left) (tw .take-word .result) (tw .take-word .ensures .0) (tw .take-word .last .1 .1 .0) (not-false _ (c .before .if2 .left)) (tw .take-word .ensures .1)
+    let t = c .before .before .before in
+    let l = at-loop t in
+    let a = start t .args in
+    let f = not-true _ (c .before .if2 .taken) in
+    let h = hear (here t .pending) (word t) in
+    let r = step-unheard (here t) (word t) (l .loop .written) (l .loop .out) h refl (c .wrapping-add-u64 .result) (c .wrapping-add-u64 .ensures) (other-unheard (here t .pending) (word t) (told t ∙ f)) (omega (arith, l .loop .inv .room-in, l .loop .inv .long)) in
+    subst (λ (p : Pending). Taken (a .progress) (a .bytes .now) (a .out .now) (l .loop .out) (record { pending = p; at = c .wrapping-add-u64 .result; count = l .loop .count }) (l .loop .written) (l .loop .taken + 1)) (sym (left-open t f))
+    (took (a .progress) (a .bytes .now) (a .out .now) (l .loop .out) (here t) (l .loop .written) (l .loop .taken) (l .loop .inv) (word t) (word-read t .word-at .ensures) (word-read t .before .loop-test .taken)
+    (t .before .before .if1 .left) _ (r .0) (l .loop .out) refl (r .1))
+
+so-far-requires-2 : tie.Need-so-far-requires-2 Inv-loop μ-loop
+so-far-requires-2 c κs = search needs
+
+take-word-requires : tie.Need-take-word-requires Inv-loop μ-loop
+take-word-requires c κs = omega arith
+
+-- a word that closes the message makes its step
+module _ (tw : tie.After-take-word Inv-loop μ-loop) where
+  abbrev taken-word : tie.After-take Inv-loop μ-loop
+  taken-word = tw .before .before .before .before .before
+
+  before-it : tw .before .before .so-far2 .result ≡ here taken-word
+  before-it = tw .before .before .so-far2 .ensures ∙ left-as-it-was taken-word (not-false _ (tw .before .before .before .if2 .left))
+
+  step-is : StepIs (here taken-word) (word taken-word) (at-loop taken-word .loop .written) (at-loop taken-word .loop .out) (tw .take-word .result) (tw .take-word .last .1 .1 .0)
+  step-is =
+      subst (λ (p : Progress). StepIs p (word taken-word) (at-loop taken-word .loop .written) (at-loop taken-word .loop .out) (tw .take-word .result) (tw .take-word .last .1 .1 .0))
+      before-it (tw .take-word .ensures .0, tw .take-word .ensures .1)
+
+so-far-requires-3 : tie.Need-so-far-requires-3 Inv-loop μ-loop
+so-far-requires-3 c κs = search needs
+
+stopped-requires-2 : tie.Need-stopped-requires-2 Inv-loop μ-loop
+stopped-requires-2 c κs = search needs
+
+same-length-2 : tie.Need-same-length-2 Inv-loop μ-loop
+same-length-2 c =
+    let tw = c .before .before .before .before .before .before in
+    tw .take-word .kept .1 .1 .0 ∙ at-loop (taken-word tw) .loop .inv .long
+
+returns-2 : tie.Need-returns-2 Inv-loop μ-loop
+returns-2 c =
+    let tw = c .before .before .before .before .before .before in
+    let t = taken-word tw in
+    let l = at-loop t in
+    let a = start t .args in
+    let before = c .before .so-far3 .ensures ∙ left-as-it-was t (not-false _ (tw .before .before .before .if2 .left)) in
+    stops-full (a .progress) (a .bytes .now) (a .out .now) (l .loop .out) (here t) (l .loop .written) (l .loop .taken) (l .loop .inv) (word t) (word-read t .word-at .ensures) (word-read t .before .loop-test .taken)
+    (t .before .before .if1 .left) (tw .take-word .result) (step-is tw .0) (tw .take-word .last .1 .1 .0) (c .stopped2 .result)
+    (c .stopped2 .ensures ∙ ap (λ (p : Progress). record { progress = p; taken = l .loop .taken; written = l .loop .written; stop = Full }) before) (not-true _ (c .before .before .if3 .taken)) (step-is tw .1)
+
+add-taken-2 : tie.Need-add-taken-2 Inv-loop μ-loop
+add-taken-2 c =
+    let t = taken-word (c .before .before .before .before .before .before .before) in
+    omega (arith, word-read t .before .loop-test .taken, start t .good .1 .0)
+
+loop-less-2 : tie.Need-loop-less-2 Inv-loop μ-loop
+loop-less-2 c =
+    let t = taken-word (c .before .before .before .before .before .before .before) in
+    omega (arith, word-read t .before .loop-test .taken)
+
+loop-again-2 : tie.Need-loop-again-2 Inv-loop μ-loop
+loop-again-2 c =
+    let tw = c .before .before .before .before .before .before .before in
+    let t = taken-word tw in
+    let l = at-loop t in
+    let a = start t .args in
+    took (a .progress) (a .bytes .now) (a .out .now) (l .loop .out) (here t) (l .loop .written) (l .loop .taken) (l .loop .inv) (word t) (word-read t .word-at .ensures) (word-read t .before .loop-test .taken)
+    (t .before .before .if1 .left) (tw .take-word .result) (step-is tw .0) (tw .take-word .last .1 .1 .0) (not-false _ (c .before .before .before .if3 .left)) (step-is tw .1)
+
+so-far-requires-4 : tie.Need-so-far-requires-4 Inv-loop μ-loop
+so-far-requires-4 c κs = search needs
 
 stopped-requires-3 : tie.Need-stopped-requires-3 Inv-loop μ-loop
-stopped-requires-3 c κs = tt
+stopped-requires-3 c κs = search needs
 
 same-length-3 : tie.Need-same-length-3 Inv-loop μ-loop
-same-length-3 c = c .before .before .loop .inv .long
+same-length-3 c = c .before .before .before .loop .inv .long
 
 returns-3 : tie.Need-returns-3 Inv-loop μ-loop
 returns-3 c =
-    let l = c .before .before in
-    let s = l .before .before .before in
-    stops-done (s .args .progress) (s .args .bytes .now) (s .args .out .now) (l .loop .out) (l .loop .progress) (l .loop .written) (l .loop .taken) (l .loop .inv) (c .stopped3 .result) (c .stopped3 .ensures) (c .before .loop-test .left)
+    let l = c .before .before .before in
+    let a = l .before .before .before .before .before .args in
+    stops-done (a .progress) (a .bytes .now) (a .out .now) (l .loop .out) (progressOf (l .loop .chars) (l .loop .len) (l .loop .at) (l .loop .count)) (l .loop .written) (l .loop .taken) (l .loop .inv) (c .stopped3 .result)
+    (c .stopped3 .ensures ∙ ap (λ (p : Progress). record { progress = p; taken = l .loop .taken; written = l .loop .written; stop = Done }) (c .before .so-far4 .ensures)) (c .before .before .loop-test .left)
 
 pub list-spec : {M : Type 1} → statement M
 list-spec =
@@ -87,16 +199,25 @@ list-spec =
     μ-loop
     loop-holds
     word-at-requires
+    so-far-requires
     stopped-requires
     same-length
     returns
-    take-word-requires
-    stopped-requires-2
-    same-length-2
-    returns-2
+    take-requires
+    wrapping-add-u64-requires
     add-taken
     loop-less
     loop-again
+    so-far-requires-2
+    take-word-requires
+    so-far-requires-3
+    stopped-requires-2
+    same-length-2
+    returns-2
+    add-taken-2
+    loop-less-2
+    loop-again-2
+    so-far-requires-4
     stopped-requires-3
     same-length-3
     returns-3)
