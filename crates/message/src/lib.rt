@@ -6,8 +6,8 @@ ghost use Rattle.refusal.specs.Refusal.{outcomeOf};
 ghost use Rattle.wire.specs.Line.{puts, lineOf};
 ghost use Rattle.message.specs.Message.{isLetter, isAddress, isIdentifier, fitsBody, isMessage};
 ghost use mathlib.Core.Bool.{true};
-ghost use Rattle.number.specs.Data.{isDigit, spellData};
-ghost use Rattle.message.specs.Scan.{message, step, stepAddress, stepIdentifier, stepBody, stepData, finish, parse};
+ghost use Rattle.number.specs.Data.{spellData, readData};
+ghost use Rattle.message.specs.Scan.{message, step, stepBody, stepData, scan, finish, parse};
 ghost use Rattle.message.specs.Spell.{spellAddress, spellBody, spell, writeCall};
 use number::Data;
 use refusal::Refusal;
@@ -115,96 +115,10 @@ pub fn is_message(message: Message) -> bool
         & fits_body(identifier, body)
 }
 
-// A digit behind the first digit of an address.
-fn step_address(letter: u8, first: u8, c: u8) -> Scan
-    requires { ⌜ isDigit c ≡ true ⌝ }
-    ensures { λ r. ⌜ r ≡ stepAddress letter first c ⌝ }
+fn heard(letter: u8, address: u8, identifier: u8, body: Body) -> Parsed
+    ensures { λ r. ⌜ r ≡ Parsed.Heard (message letter address identifier body) ⌝ }
 {
-    let address = first as u32 * 10 + (c - 48) as u32;
-    if (1 <= address) & (address <= 99) {
-        Scan::Address {
-            letter,
-            address: address as u8,
-        }
-    } else {
-        Scan::Wrong
-    }
-}
-
-// A character behind an address.
-fn step_identifier(letter: u8, address: u8, c: u8) -> Scan
-    ensures { λ r. ⌜ r ≡ stepIdentifier letter address c ⌝ }
-{
-    if is_address(address) & is_identifier(c) {
-        Scan::Identifier {
-            letter,
-            address,
-            identifier: c,
-        }
-    } else {
-        Scan::Wrong
-    }
-}
-
-// Data that has been read so far.
-fn step_data(letter: u8, address: u8, identifier: u8, read: Data) -> Scan
-    ensures { λ r. ⌜ r ≡ stepData letter address identifier read ⌝ }
-{
-    match read {
-        Data::Partial { count, value } => Scan::Digits {
-            letter,
-            address,
-            identifier,
-            data: Data::Partial { count, value },
-        },
-        Data::Number { number, decimals } => Scan::Complete(Message {
-            letter,
-            address,
-            identifier,
-            body: Body::Set { number, decimals },
-        }),
-        Data::Invalid => Scan::Wrong,
-    }
-}
-
-// A character behind an identifier.
-fn step_body(letter: u8, address: u8, identifier: u8, c: u8) -> Scan
-    ensures { λ r. ⌜ r ≡ stepBody letter address identifier c ⌝ }
-{
-    if identifier == b'?' {
-        if c == b'?' {
-            return complete(letter, address, identifier, Body::Status);
-        }
-        return Scan::Wrong;
-    }
-    if c == b'?' {
-        return complete(letter, address, identifier, Body::Query);
-    }
-    if c == b'+' {
-        return complete(letter, address, identifier, Body::Up);
-    }
-    if c == b'-' {
-        return complete(letter, address, identifier, Body::Down);
-    }
-    if c == b'I' {
-        return complete(letter, address, identifier, Body::Store);
-    }
-    if c == b'#' {
-        let data = Data::Partial { count: 0, value: 0 };
-        return Scan::Digits {
-            letter,
-            address,
-            identifier,
-            data,
-        };
-    }
-    Scan::Wrong
-}
-
-fn complete(letter: u8, address: u8, identifier: u8, body: Body) -> Scan
-    ensures { λ r. ⌜ r ≡ Scan.Complete (message letter address identifier body) ⌝ }
-{
-    Scan::Complete(Message {
+    Parsed::Heard(Message {
         letter,
         address,
         identifier,
@@ -212,70 +126,111 @@ fn complete(letter: u8, address: u8, identifier: u8, body: Body) -> Scan
     })
 }
 
-// One character more.
-pub fn step(scan: Scan, c: u8) -> Scan
-    ensures { λ r. ⌜ r ≡ step scan c ⌝ }
+// Behind an identifier, one character and nothing more.
+fn one_sign(letter: u8, address: u8, identifier: u8, c: u8) -> Parsed
+    ensures { λ r. ⌜ r ≡ finish (stepBody letter address identifier c) ⌝ }
 {
-    match scan {
-        Scan::Start => {
-            if is_letter(c) {
-                Scan::Letter { letter: c }
-            } else {
-                Scan::Wrong
-            }
+    if c == b'?' {
+        if identifier == b'?' {
+            return heard(letter, address, identifier, Body::Status);
         }
-        Scan::Letter { letter } => {
-            if number::is_digit(c) {
-                let address = c - 48;
-                Scan::Digit { letter, address }
-            } else {
-                Scan::Wrong
-            }
+        return heard(letter, address, identifier, Body::Query);
+    }
+    if identifier == b'?' {
+        return Parsed::Unheard;
+    }
+    if c == b'+' {
+        return heard(letter, address, identifier, Body::Up);
+    }
+    if c == b'-' {
+        return heard(letter, address, identifier, Body::Down);
+    }
+    if c == b'I' {
+        return heard(letter, address, identifier, Body::Store);
+    }
+    Parsed::Unheard
+}
+
+// Behind `#`: five digits and nothing more.
+fn behind_hash(letter: u8, address: u8, identifier: u8, rest: &[u8]) -> Parsed
+    ensures { λ r. ⌜ r ≡ finish (stepData letter address identifier (readData (now (rest .entry)))) ⌝ }
+{
+    if rest.len() != 5 {
+        return Parsed::Unheard;
+    }
+    let digits = [rest[0], rest[1], rest[2], rest[3], rest[4]];
+    let data = number::read_data(digits);
+    match data {
+        Data::Partial { count: _, value: _ } => Parsed::Unheard,
+        Data::Number { number, decimals } => {
+            heard(letter, address, identifier, Body::Set { number, decimals })
         }
-        Scan::Digit { letter, address } => {
-            if number::is_digit(c) {
-                step_address(letter, address, c)
-            } else {
-                step_identifier(letter, address, c)
-            }
-        }
-        Scan::Address { letter, address } => step_identifier(letter, address, c),
-        Scan::Identifier {
-            letter,
-            address,
-            identifier,
-        } => step_body(letter, address, identifier, c),
-        Scan::Digits {
-            letter,
-            address,
-            identifier,
-            data,
-        } => step_data(letter, address, identifier, number::next(data, c)),
-        Scan::Complete(_) => Scan::Wrong,
-        Scan::Wrong => Scan::Wrong,
+        Data::Invalid => Parsed::Unheard,
     }
 }
 
-fn finish(scan: Scan) -> Parsed
-    ensures { λ r. ⌜ r ≡ finish scan ⌝ }
+// Behind an address: an identifier and one character.
+fn with_sign(letter: u8, address: u8, identifier: u8, c: u8) -> Parsed
+    ensures { λ r. ⌜ r ≡ finish (step (step (Scan.Address letter address) identifier) c) ⌝ }
 {
-    let Scan::Complete(message) = scan else {
-        return Parsed::Unheard;
-    };
-    Parsed::Heard(message)
+    if is_address(address) & is_identifier(identifier) {
+        one_sign(letter, address, identifier, c)
+    } else {
+        Parsed::Unheard
+    }
 }
 
-// What the characters before a `*` are.
+// Behind an address: an identifier, `#` and digits.
+fn with_data(letter: u8, address: u8, rest: &[u8]) -> Parsed
+    requires { ⌜ 3 ≤ length (now rest) ⌝ }
+    ensures { λ r. ⌜ r ≡ finish (scan (Scan.Address letter address) (now (rest .entry))) ⌝ }
+{
+    let identifier = rest[0];
+    let c = rest[1];
+    if !(is_address(address) & is_identifier(identifier)) {
+        return Parsed::Unheard;
+    }
+    if (c == b'#') & (identifier != b'?') {
+        return behind_hash(letter, address, identifier, &rest[2..]);
+    }
+    Parsed::Unheard
+}
+
+// What the characters before a `*` are. Fewer than six have no data; five of them have two digits of address.
 pub fn parse(characters: &[u8]) -> Parsed
     ensures { λ r. ⌜ r ≡ parse (now (characters .entry)) ⌝ }
 {
-    let mut scan = Scan::Start;
-    let mut i = 0;
-    while i < characters.len() {
-        scan = step(scan, characters[i]);
-        i += 1;
+    if characters.len() < 4 {
+        return Parsed::Unheard;
     }
-    finish(scan)
+    let letter = characters[0];
+    let first = characters[1];
+    if !is_letter(letter) {
+        return Parsed::Unheard;
+    }
+    if !number::is_digit(first) {
+        return Parsed::Unheard;
+    }
+    let second = characters[2];
+    let mut address = first - 48;
+    if characters.len() < 6 {
+        let mut identifier = second;
+        if characters.len() == 5 {
+            if !number::is_digit(second) {
+                return Parsed::Unheard;
+            }
+            address = address * 10 + (second - 48);
+            identifier = characters[3];
+        }
+        let last = characters.len() - 1;
+        return with_sign(letter, address, identifier, characters[last]);
+    }
+    let mut at = 2;
+    if number::is_digit(second) {
+        address = address * 10 + (second - 48);
+        at = 3;
+    }
+    with_data(letter, address, &characters[at..])
 }
 
 // An address without a leading zero.
