@@ -1,7 +1,7 @@
 -- Where the parts of a message stand. The recogniser goes on from the next character to the rest; what is wrong stays wrong, a
 -- whole message has nothing behind it, and only five characters are data. Assumes nothing.
 use mathlib.Core.Path.{_≡_, refl, sym, ap, _∙_}
-use mathlib.Core.Bool.{Bool, true, false, not, _&&_, false≢true}
+use mathlib.Core.Bool.{true, false, not, _&&_, false≢true}
 use mathlib.Core.List.{List, [], _∷_}
 use Prim.Native.Nat.{ℕ, _+_, _-_, _*_, _<_, _≤_}
 use Prim.Native.Char.{code}
@@ -19,9 +19,9 @@ use Rattle.number.specs.Data.{isDigit, digitOf, start, readData}
 use Rattle.number.proofs.Reading.{read-length}
 use Rattle.message.specs.declared.Message.{Message}
 use Rattle.message.specs.declared.Parsed.{Parsed}
-use Rattle.message.specs.declared.Parsed.the-variants.{Heard, Unheard}
+use Rattle.message.specs.declared.Parsed.the-variants.{Unheard}
 use Rattle.message.specs.declared.Scan.{Scan}
-use Rattle.message.specs.declared.Scan.the-variants.{Start, Letter, Digit, Address, Identifier, Digits, Complete, Wrong}
+use Rattle.message.specs.declared.Scan.the-variants.{Start, Digit, Address, Identifier, Complete, Wrong}
 use Rattle.message.specs.Message.{question, isLetter, isAddress, isIdentifier}
 use Rattle.message.specs.Scan.{stepIdentifier, stepAddress, stepData, stepBody, step, scan, finish, parse}
 use Rattle.message.proofs.Messages.{identifier-no-digit}

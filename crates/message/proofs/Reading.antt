@@ -1,19 +1,18 @@
 -- Reading: the steps of the recogniser, each under its test; what is spelled is read, and what is read is a message.
 -- Assumes nothing.
-use mathlib.Core.Path.{_≡_, refl, sym, ap, _∙_, subst}
-use mathlib.Core.Bool.{Bool, true, false, not, cond, _&&_}
+use mathlib.Core.Path.{_≡_, refl, sym, ap, _∙_}
+use mathlib.Core.Bool.{true, false, not, _&&_}
 use mathlib.Core.List.{List, [], _∷_, _++_}
-use Prim.Native.Nat.{ℕ, _+_, _*_, _/_, _%_, _<_, _≤_}
+use Prim.Native.Nat.{ℕ, _+_, _*_, _/_, _%_, _≤_}
 use Prim.Native.Char.{code}
 use native.Mathlib.Nat.{div-add-mod'}
 use native.Mathlib.Omega.{arith}
 use borrow.Author.Tests.{leb-true}
 use lib.Dec.{leb, eqb}
-use lib.IntN.{ℤ}
 use Rattle.refusal.proofs.Logic.{ands, and-both, not-is, is-not, choice}
 use Rattle.number.specs.declared.Data.{Data}
 use Rattle.number.specs.declared.Data.the-variants.{Partial, Number, Invalid}
-use Rattle.number.specs.Data.{digit, isDigit, digitOf, fits, spellData, start, next, readFrom, readData}
+use Rattle.number.specs.Data.{digit, isDigit, digitOf, spellData, start, next, readFrom, readData}
 use Rattle.number.proofs.Digits.{digit-is, digit-back, digit-below}
 use Rattle.number.proofs.Reading.{read-written, read-more, read-fits, next-number, next-invalid}
 use Rattle.message.specs.declared.Body.{Body}

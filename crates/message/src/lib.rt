@@ -1,11 +1,11 @@
-// A message: read from left to right, tested, spelled, and written.
+// A message: read, tested, spelled, and written.
 ghost use mathlib.Core.Path.{_≡_};
 ghost use Prim.Native.Nat.{_≤_};
-ghost use lib.ListN.{length};
+ghost use lib.ListN.{length, getD};
+ghost use mathlib.Core.List.{[], _∷_, _++_};
 ghost use Rattle.refusal.specs.Refusal.{outcomeOf};
 ghost use Rattle.wire.specs.Line.{puts, lineOf};
-ghost use Rattle.message.specs.Message.{isLetter, isAddress, isIdentifier, fitsBody, isMessage};
-ghost use mathlib.Core.Bool.{true};
+ghost use Rattle.message.specs.Message.{star, isLetter, isAddress, isIdentifier, fitsBody, isMessage};
 ghost use Rattle.number.specs.Data.{spellData, readData};
 ghost use Rattle.message.specs.Scan.{message, step, stepBody, stepData, scan, finish, parse};
 ghost use Rattle.message.specs.Spell.{spellAddress, spellBody, spell, writeCall};
@@ -83,10 +83,14 @@ pub fn is_address(address: u8) -> bool
     (1 <= address) & (address <= 99)
 }
 
+// Behind the digits, or before them.
 pub fn is_identifier(c: u8) -> bool
     ensures { λ r. ⌜ r ≡ isIdentifier c ⌝ }
 {
-    (33 <= c) & (c <= 126) & !number::is_digit(c) & (c != b'*')
+    if 58 <= c {
+        return c <= 126;
+    }
+    (33 <= c) & (c <= 47) & (c != b'*')
 }
 
 // Whether the body can stand behind the identifier.
@@ -173,11 +177,13 @@ fn behind_hash(letter: u8, address: u8, identifier: u8, rest: &[u8]) -> Parsed
 fn with_sign(letter: u8, address: u8, identifier: u8, c: u8) -> Parsed
     ensures { λ r. ⌜ r ≡ finish (step (step (Scan.Address letter address) identifier) c) ⌝ }
 {
-    if is_address(address) & is_identifier(identifier) {
-        one_sign(letter, address, identifier, c)
-    } else {
-        Parsed::Unheard
+    if !is_address(address) {
+        return Parsed::Unheard;
     }
+    if !is_identifier(identifier) {
+        return Parsed::Unheard;
+    }
+    one_sign(letter, address, identifier, c)
 }
 
 // Behind an address: an identifier, `#` and digits.
@@ -187,7 +193,10 @@ fn with_data(letter: u8, address: u8, rest: &[u8]) -> Parsed
 {
     let identifier = rest[0];
     let c = rest[1];
-    if !(is_address(address) & is_identifier(identifier)) {
+    if !is_address(address) {
+        return Parsed::Unheard;
+    }
+    if !is_identifier(identifier) {
         return Parsed::Unheard;
     }
     if (c == b'#') & (identifier != b'?') {
@@ -245,36 +254,86 @@ pub fn put_address(line: Line, address: u8) -> Line
     }
 }
 
-// Five digits of data.
+// Five digits of data. Where the line has room for all of them, they are set at once.
 pub fn put_data(line: Line, number: i32, decimals: u8) -> Line
     ensures { λ r. ⌜ r ≡ puts line (spellData number decimals) ⌝ }
 {
     let digits = number::write_data(number, decimals);
-    line.put_all(&digits)
+    let len = line.len;
+    if 6 < len {
+        return line.put_all(&digits);
+    }
+    let second = len + 1;
+    let third = second + 1;
+    let fourth = third + 1;
+    let fifth = fourth + 1;
+    let end = fifth + 1;
+    let mut bytes = line.bytes;
+    bytes[len] = wire::with_parity(digits[0]);
+    bytes[second] = wire::with_parity(digits[1]);
+    bytes[third] = wire::with_parity(digits[2]);
+    bytes[fourth] = wire::with_parity(digits[3]);
+    bytes[fifth] = wire::with_parity(digits[4]);
+    Line { bytes, len: end }
 }
 
-fn put_body(line: Line, body: Body) -> Line
-    ensures { λ r. ⌜ r ≡ puts line (spellBody body) ⌝ }
+// The character behind an identifier.
+fn sign(body: Body) -> u8
+    ensures { λ r. ⌜ r ≡ getD (spellBody body) 0 0 ⌝ }
 {
     match body {
-        Body::Status => line.put(b'?'),
-        Body::Query => line.put(b'?'),
-        Body::Up => line.put(b'+'),
-        Body::Down => line.put(b'-'),
-        Body::Set { number, decimals } => put_data(line.put(b'#'), number, decimals),
-        Body::Store => line.put(b'I'),
+        Body::Status => b'?',
+        Body::Query => b'?',
+        Body::Up => b'+',
+        Body::Down => b'-',
+        Body::Set {
+            number: _,
+            decimals: _,
+        } => b'#',
+        Body::Store => b'I',
     }
+}
+
+// A message with one character behind its identifier, as it travels.
+fn line_of_sign(letter: u8, address: u8, identifier: u8, c: u8) -> Line
+    ensures { λ r. ⌜ r ≡ lineOf ((letter ∷ (spellAddress address ++ (identifier ∷ c ∷ []))) ++ (star ∷ [])) ⌝ }
+{
+    let l = wire::with_parity(letter);
+    let i = wire::with_parity(identifier);
+    let s = wire::with_parity(c);
+    let e = wire::with_parity(b'*');
+    if address <= 9 {
+        let d = wire::with_parity(48 + address);
+        let bytes = [l, d, i, s, e, 0, 0, 0, 0, 0, 0];
+        return Line { bytes, len: 5 };
+    }
+    let t = wire::with_parity(48 + address / 10);
+    let u = wire::with_parity(48 + address % 10);
+    let bytes = [l, t, u, i, s, e, 0, 0, 0, 0, 0];
+    Line { bytes, len: 6 }
+}
+
+// A message with data, as it travels.
+fn line_of_data(letter: u8, address: u8, identifier: u8, number: i32, decimals: u8) -> Line
+    ensures { λ r. ⌜ r ≡ lineOf (spell (message letter address identifier (Body.Set number decimals))) ⌝ }
+{
+    let front = put_address(Line::new().put(letter), address);
+    let hash = front.put(identifier).put(b'#');
+    put_data(hash, number, decimals).put(b'*')
 }
 
 // The message as it travels, `*` included.
 pub fn spell(message: Message) -> Line
     ensures { λ r. ⌜ r ≡ lineOf (spell message) ⌝ }
 {
-    let letter = Line::new().put(message.letter);
-    let address = put_address(letter, message.address);
-    let identifier = address.put(message.identifier);
+    let letter = message.letter;
+    let address = message.address;
+    let identifier = message.identifier;
     let body = message.body;
-    put_body(identifier, body).put(b'*')
+    let Body::Set { number, decimals } = body else {
+        return line_of_sign(letter, address, identifier, sign(body));
+    };
+    line_of_data(letter, address, identifier, number, decimals)
 }
 
 fn address_len(address: u8) -> usize

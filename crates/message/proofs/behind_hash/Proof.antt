@@ -3,10 +3,8 @@ use mathlib.Core.Path.{_≡_, sym, ap, _∙_}
 use mathlib.Core.List.{List}
 use Prim.Native.Nat.{ℕ}
 use native.Mathlib.Omega.{arith}
-use lib.ListN.{length}
 use mir.Syntax.{w32}
 use mir.Val.{SFits}
-use Rattle.number.specs.declared.Data.{Data}
 use Rattle.number.specs.Data.{readData}
 use Rattle.number.proofs.Signed.{rd-is}
 use Rattle.message.specs.Scan.{stepData, finish}

@@ -4,7 +4,7 @@ use mathlib.Core.Path.{_≡_, sym, ap, ap₂, _∙_, subst}
 use mathlib.Core.Bool.{true, false}
 use mathlib.Core.List.{List}
 use mathlib.Core.Logic.{⊎-elim}
-use Prim.Native.Nat.{ℕ, _+_, _-_, _*_, _<_, _≤_}
+use Prim.Native.Nat.{ℕ, _+_, _-_, _*_, _≤_}
 use native.Mathlib.Omega.{arith}
 use borrow.Author.Tests.{not-true, not-false}
 use lib.ListN.{length, getD, drop, length-drop}
@@ -14,7 +14,7 @@ use Rattle.message.specs.declared.Parsed.{Parsed}
 use Rattle.message.specs.declared.Scan.{Scan}
 use Rattle.message.specs.declared.Scan.the-variants.{Start, Digit, Address}
 use Rattle.message.specs.Message.{isLetter}
-use Rattle.message.specs.Scan.{step, scan, finish, parse}
+use Rattle.message.specs.Scan.{step, finish, parse}
 use Rattle.message.proofs.Places.{scan-more, part-all, leads, past-two, last-two, no-letter, no-digit, first-digit, two-digits, one-digit, wrong-length, one-is-all, too-short}
 use borrow.Author.Needs.{needs}
 use Rattle.message.proofs.parse.Statement.{statement}
