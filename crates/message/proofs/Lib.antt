@@ -1,4 +1,5 @@
 pub mod Messages
 pub mod Reading
+pub mod Places
 pub mod Spelling
 pub mod Short

@@ -1,22 +1,18 @@
 -- Reading: the steps of the recogniser, each under its test; what is spelled is read, and what is read is a message.
 -- Assumes nothing.
-use mathlib.Core.Path.{_≡_, refl, sym, ap, _∙_, subst}
-use mathlib.Core.Bool.{Bool, true, false, not, cond, _&&_}
+use mathlib.Core.Path.{_≡_, refl, sym, ap, _∙_}
+use mathlib.Core.Bool.{true, false, not, _&&_}
 use mathlib.Core.List.{List, [], _∷_, _++_}
-use Prim.Native.Nat.{ℕ, _+_, _*_, _/_, _%_, _<_, _≤_}
+use Prim.Native.Nat.{ℕ, _+_, _*_, _/_, _%_, _≤_}
 use Prim.Native.Char.{code}
 use native.Mathlib.Nat.{div-add-mod'}
-use native.Mathlib.Numerals.{add-one}
 use native.Mathlib.Omega.{arith}
 use borrow.Author.Tests.{leb-true}
 use lib.Dec.{leb, eqb}
-use lib.IntN.{ℤ}
-use lib.ListN.{length, getD, drop, drop-of-length-le}
-use lib.Seq.{drop-cons}
 use Rattle.refusal.proofs.Logic.{ands, and-both, not-is, is-not, choice}
 use Rattle.number.specs.declared.Data.{Data}
 use Rattle.number.specs.declared.Data.the-variants.{Partial, Number, Invalid}
-use Rattle.number.specs.Data.{digit, isDigit, digitOf, fits, spellData, start, next, readFrom, readData}
+use Rattle.number.specs.Data.{digit, isDigit, digitOf, spellData, start, next, readFrom, readData}
 use Rattle.number.proofs.Digits.{digit-is, digit-back, digit-below}
 use Rattle.number.proofs.Reading.{read-written, read-more, read-fits, next-number, next-invalid}
 use Rattle.message.specs.declared.Body.{Body}
@@ -79,7 +75,7 @@ step-read l a i (Partial k n) c = refl
 step-read l a i (Number n d) c = ap (stepData l a i) (sym (next-number n d c))
 step-read l a i Invalid c = ap (stepData l a i) (sym (next-invalid c))
 
-scan-data : (l a i : ℕ) (x : Data) (cs : List ℕ) → scan (stepData l a i x) cs ≡ stepData l a i (readFrom x cs)
+pub scan-data : (l a i : ℕ) (x : Data) (cs : List ℕ) → scan (stepData l a i x) cs ≡ stepData l a i (readFrom x cs)
 unfolding scan readFrom
 scan-data l a i x [] = refl
 scan-data l a i x (c ∷ cs) = ap (λ (s : Scan). scan s cs) (step-read l a i x c) ∙ scan-data l a i (next x c) cs
@@ -87,7 +83,7 @@ scan-data l a i x (c ∷ cs) = ap (λ (s : Scan). scan s cs) (step-read l a i x 
 is-other : (i : ℕ) → not (eqb i question) ≡ true → eqb i question ≡ false
 is-other i e = not-is e
 
-step-hash : (l a i : ℕ) → not (eqb i question) ≡ true → step (Identifier l a i) (code "#") ≡ stepData l a i start
+pub step-hash : (l a i : ℕ) → not (eqb i question) ≡ true → step (Identifier l a i) (code "#") ≡ stepData l a i start
 unfolding step stepBody stepData
 step-hash l a i e = rw (is-other i e)
 
@@ -206,13 +202,3 @@ sound-finish Wrong h = tt
 pub parse-message : (cs : List ℕ) → Heard-is (parse cs)
 unfolding parse
 parse-message cs = sound-finish (scan Start cs) (sound-scan Start cs tt)
-
--- ---- the characters from an index on
-
-pub scan-more : (s : Scan) (cs : List ℕ) (i : ℕ) → i < length cs → scan s (drop i cs) ≡ scan (step s (getD cs i 0)) (drop (i + 1) cs)
-unfolding scan
-scan-more s cs i h = rw (add-one, drop-cons cs i 0 h)
-
-pub scan-done : (s : Scan) (cs : List ℕ) (i : ℕ) → length cs ≤ i → scan s (drop i cs) ≡ s
-unfolding scan
-scan-done s cs i h = rw (drop-of-length-le cs h)

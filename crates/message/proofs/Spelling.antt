@@ -1,20 +1,20 @@
 -- What a message is spelled with: characters of seven bits other than `*`, at most ten of them, and then the `*`.
 -- Assumes nothing.
 use mathlib.Core.Path.{_≡_, refl, sym, ap, _∙_}
-use mathlib.Core.Bool.{Bool, true, false}
+use mathlib.Core.Bool.{true, false}
 use mathlib.Core.List.{List, [], _∷_, _++_}
 use Prim.Native.Nat.{ℕ, _+_, _/_, _%_, _<_, _≤_}
 use native.Mathlib.Omega.{arith}
-use borrow.Author.Tests.{leb-true}
+use borrow.Author.Tests.{leb-true, lt-ltb}
 use lib.Dec.{leb, lit<, lit≤}
 use lib.IntN.{ℤ}
-use lib.ListN.{length, length-append}
-use Rattle.refusal.proofs.Logic.{ands, choice}
+use lib.ListN.{length, set, length-append}
+use Rattle.refusal.proofs.Logic.{choice}
 use Rattle.refusal.specs.Call.{writes, refuses}
 use Rattle.refusal.specs.declared.Refusal.the-variants.{NotMessage}
 use Rattle.wire.specs.declared.Line.{Line}
-use Rattle.wire.specs.Word.{travelling}
-use Rattle.wire.specs.Line.{empty, put, puts, lineOf}
+use Rattle.wire.specs.Word.{withParity, travelling}
+use Rattle.wire.specs.Line.{longest, empty, put, puts, lineOf}
 use Rattle.wire.proofs.Lines.{puts-append, puts-empty}
 use Rattle.number.specs.Data.{digit, spellData}
 use Rattle.number.proofs.Digits.{digit-is, AllDigits, data-length, data-digits}
@@ -23,7 +23,7 @@ use Rattle.message.specs.declared.Body.the-variants.{Status, Query, Up, 
 use Rattle.message.specs.declared.Message.{Message}
 use Rattle.message.specs.Message.{star, isAddress, isMessage}
 use Rattle.message.specs.Spell.{spellAddress, spellBody, spellOpen, spell, writeCall}
-use Rattle.message.proofs.Messages.{Parts, PlainChar, Plain, plain-append, plain-letter, plain-digit, plain-identifier, address-most}
+use Rattle.message.proofs.Messages.{Parts, Plain, plain-append, plain-letter, plain-digit, plain-identifier, address-most}
 
 -- ---- its characters
 
@@ -126,6 +126,20 @@ spelled-line m l₀ l₁ l₂ l₃ l₄ l₅ e₀ e₁ e₂ e₃ e₄ e₅ =
     ∙ sym (puts-append l₁ (a ++ (m .identifier ∷ b)) (star ∷ []))
     ∙ ap (λ (l : Line). puts l ((a ++ (m .identifier ∷ b)) ++ (star ∷ []))) (e₁ ∙ ap (λ (l : Line). put l (m .letter)) e₀)
     ∙ puts-empty (spell m) (spell-length m)
+
+-- five characters more, where there is room for them
+pub puts-five : (l : Line) (a b c d e : ℕ) → l .len ≤ 6
+    → puts l (a ∷ b ∷ c ∷ d ∷ e ∷ [])
+    ≡ record { bytes = set (set (set (set (set (l .bytes) (l .len) (withParity a)) (l .len + 1) (withParity b)) (l .len + 1 + 1) (withParity c)) (l .len + 1 + 1 + 1) (withParity d)) (l .len + 1 + 1 + 1 + 1) (withParity e); len = l .len + 1 + 1 + 1 + 1 + 1 }
+unfolding puts put
+puts-five l a b c d e h =
+    rw (
+      lt-ltb (l .len) longest (omega arith),
+      lt-ltb (l .len + 1) longest (omega arith),
+      lt-ltb (l .len + 1 + 1) longest (omega arith),
+      lt-ltb (l .len + 1 + 1 + 1) longest (omega arith),
+      lt-ltb (l .len + 1 + 1 + 1 + 1) longest (omega arith),
+    )
 
 -- ---- the call
 

@@ -1,13 +1,13 @@
-// A message: read from left to right, tested, spelled, and written.
+// A message: read, tested, spelled, and written.
 ghost use mathlib.Core.Path.{_≡_};
 ghost use Prim.Native.Nat.{_≤_};
-ghost use lib.ListN.{length};
+ghost use lib.ListN.{length, getD};
+ghost use mathlib.Core.List.{[], _∷_, _++_};
 ghost use Rattle.refusal.specs.Refusal.{outcomeOf};
 ghost use Rattle.wire.specs.Line.{puts, lineOf};
-ghost use Rattle.message.specs.Message.{isLetter, isAddress, isIdentifier, fitsBody, isMessage};
-ghost use mathlib.Core.Bool.{true};
-ghost use Rattle.number.specs.Data.{isDigit, spellData};
-ghost use Rattle.message.specs.Scan.{message, step, stepAddress, stepIdentifier, stepBody, stepData, finish, parse};
+ghost use Rattle.message.specs.Message.{star, isLetter, isAddress, isIdentifier, fitsBody, isMessage};
+ghost use Rattle.number.specs.Data.{spellData, readData};
+ghost use Rattle.message.specs.Scan.{message, step, stepBody, stepData, scan, finish, parse};
 ghost use Rattle.message.specs.Spell.{spellAddress, spellBody, spell, writeCall};
 use number::Data;
 use refusal::Refusal;
@@ -83,10 +83,14 @@ pub fn is_address(address: u8) -> bool
     (1 <= address) & (address <= 99)
 }
 
+// Behind the digits, or before them.
 pub fn is_identifier(c: u8) -> bool
     ensures { λ r. ⌜ r ≡ isIdentifier c ⌝ }
 {
-    (33 <= c) & (c <= 126) & !number::is_digit(c) & (c != b'*')
+    if 58 <= c {
+        return c <= 126;
+    }
+    (33 <= c) & (c <= 47) & (c != b'*')
 }
 
 // Whether the body can stand behind the identifier.
@@ -115,96 +119,10 @@ pub fn is_message(message: Message) -> bool
         & fits_body(identifier, body)
 }
 
-// A digit behind the first digit of an address.
-fn step_address(letter: u8, first: u8, c: u8) -> Scan
-    requires { ⌜ isDigit c ≡ true ⌝ }
-    ensures { λ r. ⌜ r ≡ stepAddress letter first c ⌝ }
+fn heard(letter: u8, address: u8, identifier: u8, body: Body) -> Parsed
+    ensures { λ r. ⌜ r ≡ Parsed.Heard (message letter address identifier body) ⌝ }
 {
-    let address = first as u32 * 10 + (c - 48) as u32;
-    if (1 <= address) & (address <= 99) {
-        Scan::Address {
-            letter,
-            address: address as u8,
-        }
-    } else {
-        Scan::Wrong
-    }
-}
-
-// A character behind an address.
-fn step_identifier(letter: u8, address: u8, c: u8) -> Scan
-    ensures { λ r. ⌜ r ≡ stepIdentifier letter address c ⌝ }
-{
-    if is_address(address) & is_identifier(c) {
-        Scan::Identifier {
-            letter,
-            address,
-            identifier: c,
-        }
-    } else {
-        Scan::Wrong
-    }
-}
-
-// Data that has been read so far.
-fn step_data(letter: u8, address: u8, identifier: u8, read: Data) -> Scan
-    ensures { λ r. ⌜ r ≡ stepData letter address identifier read ⌝ }
-{
-    match read {
-        Data::Partial { count, value } => Scan::Digits {
-            letter,
-            address,
-            identifier,
-            data: Data::Partial { count, value },
-        },
-        Data::Number { number, decimals } => Scan::Complete(Message {
-            letter,
-            address,
-            identifier,
-            body: Body::Set { number, decimals },
-        }),
-        Data::Invalid => Scan::Wrong,
-    }
-}
-
-// A character behind an identifier.
-fn step_body(letter: u8, address: u8, identifier: u8, c: u8) -> Scan
-    ensures { λ r. ⌜ r ≡ stepBody letter address identifier c ⌝ }
-{
-    if identifier == b'?' {
-        if c == b'?' {
-            return complete(letter, address, identifier, Body::Status);
-        }
-        return Scan::Wrong;
-    }
-    if c == b'?' {
-        return complete(letter, address, identifier, Body::Query);
-    }
-    if c == b'+' {
-        return complete(letter, address, identifier, Body::Up);
-    }
-    if c == b'-' {
-        return complete(letter, address, identifier, Body::Down);
-    }
-    if c == b'I' {
-        return complete(letter, address, identifier, Body::Store);
-    }
-    if c == b'#' {
-        let data = Data::Partial { count: 0, value: 0 };
-        return Scan::Digits {
-            letter,
-            address,
-            identifier,
-            data,
-        };
-    }
-    Scan::Wrong
-}
-
-fn complete(letter: u8, address: u8, identifier: u8, body: Body) -> Scan
-    ensures { λ r. ⌜ r ≡ Scan.Complete (message letter address identifier body) ⌝ }
-{
-    Scan::Complete(Message {
+    Parsed::Heard(Message {
         letter,
         address,
         identifier,
@@ -212,70 +130,116 @@ fn complete(letter: u8, address: u8, identifier: u8, body: Body) -> Scan
     })
 }
 
-// One character more.
-pub fn step(scan: Scan, c: u8) -> Scan
-    ensures { λ r. ⌜ r ≡ step scan c ⌝ }
+// Behind an identifier, one character and nothing more.
+fn one_sign(letter: u8, address: u8, identifier: u8, c: u8) -> Parsed
+    ensures { λ r. ⌜ r ≡ finish (stepBody letter address identifier c) ⌝ }
 {
-    match scan {
-        Scan::Start => {
-            if is_letter(c) {
-                Scan::Letter { letter: c }
-            } else {
-                Scan::Wrong
-            }
+    if c == b'?' {
+        if identifier == b'?' {
+            return heard(letter, address, identifier, Body::Status);
         }
-        Scan::Letter { letter } => {
-            if number::is_digit(c) {
-                let address = c - 48;
-                Scan::Digit { letter, address }
-            } else {
-                Scan::Wrong
-            }
+        return heard(letter, address, identifier, Body::Query);
+    }
+    if identifier == b'?' {
+        return Parsed::Unheard;
+    }
+    if c == b'+' {
+        return heard(letter, address, identifier, Body::Up);
+    }
+    if c == b'-' {
+        return heard(letter, address, identifier, Body::Down);
+    }
+    if c == b'I' {
+        return heard(letter, address, identifier, Body::Store);
+    }
+    Parsed::Unheard
+}
+
+// Behind `#`: five digits and nothing more.
+fn behind_hash(letter: u8, address: u8, identifier: u8, rest: &[u8]) -> Parsed
+    ensures { λ r. ⌜ r ≡ finish (stepData letter address identifier (readData (now (rest .entry)))) ⌝ }
+{
+    if rest.len() != 5 {
+        return Parsed::Unheard;
+    }
+    let digits = [rest[0], rest[1], rest[2], rest[3], rest[4]];
+    let data = number::read_data(digits);
+    match data {
+        Data::Partial { count: _, value: _ } => Parsed::Unheard,
+        Data::Number { number, decimals } => {
+            heard(letter, address, identifier, Body::Set { number, decimals })
         }
-        Scan::Digit { letter, address } => {
-            if number::is_digit(c) {
-                step_address(letter, address, c)
-            } else {
-                step_identifier(letter, address, c)
-            }
-        }
-        Scan::Address { letter, address } => step_identifier(letter, address, c),
-        Scan::Identifier {
-            letter,
-            address,
-            identifier,
-        } => step_body(letter, address, identifier, c),
-        Scan::Digits {
-            letter,
-            address,
-            identifier,
-            data,
-        } => step_data(letter, address, identifier, number::next(data, c)),
-        Scan::Complete(_) => Scan::Wrong,
-        Scan::Wrong => Scan::Wrong,
+        Data::Invalid => Parsed::Unheard,
     }
 }
 
-fn finish(scan: Scan) -> Parsed
-    ensures { λ r. ⌜ r ≡ finish scan ⌝ }
+// Behind an address: an identifier and one character.
+fn with_sign(letter: u8, address: u8, identifier: u8, c: u8) -> Parsed
+    ensures { λ r. ⌜ r ≡ finish (step (step (Scan.Address letter address) identifier) c) ⌝ }
 {
-    let Scan::Complete(message) = scan else {
+    if !is_address(address) {
         return Parsed::Unheard;
-    };
-    Parsed::Heard(message)
+    }
+    if !is_identifier(identifier) {
+        return Parsed::Unheard;
+    }
+    one_sign(letter, address, identifier, c)
 }
 
-// What the characters before a `*` are.
+// Behind an address: an identifier, `#` and digits.
+fn with_data(letter: u8, address: u8, rest: &[u8]) -> Parsed
+    requires { ⌜ 3 ≤ length (now rest) ⌝ }
+    ensures { λ r. ⌜ r ≡ finish (scan (Scan.Address letter address) (now (rest .entry))) ⌝ }
+{
+    let identifier = rest[0];
+    let c = rest[1];
+    if !is_address(address) {
+        return Parsed::Unheard;
+    }
+    if !is_identifier(identifier) {
+        return Parsed::Unheard;
+    }
+    if (c == b'#') & (identifier != b'?') {
+        return behind_hash(letter, address, identifier, &rest[2..]);
+    }
+    Parsed::Unheard
+}
+
+// What the characters before a `*` are. Fewer than six have no data; five of them have two digits of address.
 pub fn parse(characters: &[u8]) -> Parsed
     ensures { λ r. ⌜ r ≡ parse (now (characters .entry)) ⌝ }
 {
-    let mut scan = Scan::Start;
-    let mut i = 0;
-    while i < characters.len() {
-        scan = step(scan, characters[i]);
-        i += 1;
+    if characters.len() < 4 {
+        return Parsed::Unheard;
     }
-    finish(scan)
+    let letter = characters[0];
+    let first = characters[1];
+    if !is_letter(letter) {
+        return Parsed::Unheard;
+    }
+    if !number::is_digit(first) {
+        return Parsed::Unheard;
+    }
+    let second = characters[2];
+    let mut address = first - 48;
+    if characters.len() < 6 {
+        let mut identifier = second;
+        if characters.len() == 5 {
+            if !number::is_digit(second) {
+                return Parsed::Unheard;
+            }
+            address = address * 10 + (second - 48);
+            identifier = characters[3];
+        }
+        let last = characters.len() - 1;
+        return with_sign(letter, address, identifier, characters[last]);
+    }
+    let mut at = 2;
+    if number::is_digit(second) {
+        address = address * 10 + (second - 48);
+        at = 3;
+    }
+    with_data(letter, address, &characters[at..])
 }
 
 // An address without a leading zero.
@@ -290,36 +254,86 @@ pub fn put_address(line: Line, address: u8) -> Line
     }
 }
 
-// Five digits of data.
+// Five digits of data. Where the line has room for all of them, they are set at once.
 pub fn put_data(line: Line, number: i32, decimals: u8) -> Line
     ensures { λ r. ⌜ r ≡ puts line (spellData number decimals) ⌝ }
 {
     let digits = number::write_data(number, decimals);
-    line.put_all(&digits)
+    let len = line.len;
+    if 6 < len {
+        return line.put_all(&digits);
+    }
+    let second = len + 1;
+    let third = second + 1;
+    let fourth = third + 1;
+    let fifth = fourth + 1;
+    let end = fifth + 1;
+    let mut bytes = line.bytes;
+    bytes[len] = wire::with_parity(digits[0]);
+    bytes[second] = wire::with_parity(digits[1]);
+    bytes[third] = wire::with_parity(digits[2]);
+    bytes[fourth] = wire::with_parity(digits[3]);
+    bytes[fifth] = wire::with_parity(digits[4]);
+    Line { bytes, len: end }
 }
 
-fn put_body(line: Line, body: Body) -> Line
-    ensures { λ r. ⌜ r ≡ puts line (spellBody body) ⌝ }
+// The character behind an identifier.
+fn sign(body: Body) -> u8
+    ensures { λ r. ⌜ r ≡ getD (spellBody body) 0 0 ⌝ }
 {
     match body {
-        Body::Status => line.put(b'?'),
-        Body::Query => line.put(b'?'),
-        Body::Up => line.put(b'+'),
-        Body::Down => line.put(b'-'),
-        Body::Set { number, decimals } => put_data(line.put(b'#'), number, decimals),
-        Body::Store => line.put(b'I'),
+        Body::Status => b'?',
+        Body::Query => b'?',
+        Body::Up => b'+',
+        Body::Down => b'-',
+        Body::Set {
+            number: _,
+            decimals: _,
+        } => b'#',
+        Body::Store => b'I',
     }
+}
+
+// A message with one character behind its identifier, as it travels.
+fn line_of_sign(letter: u8, address: u8, identifier: u8, c: u8) -> Line
+    ensures { λ r. ⌜ r ≡ lineOf ((letter ∷ (spellAddress address ++ (identifier ∷ c ∷ []))) ++ (star ∷ [])) ⌝ }
+{
+    let l = wire::with_parity(letter);
+    let i = wire::with_parity(identifier);
+    let s = wire::with_parity(c);
+    let e = wire::with_parity(b'*');
+    if address <= 9 {
+        let d = wire::with_parity(48 + address);
+        let bytes = [l, d, i, s, e, 0, 0, 0, 0, 0, 0];
+        return Line { bytes, len: 5 };
+    }
+    let t = wire::with_parity(48 + address / 10);
+    let u = wire::with_parity(48 + address % 10);
+    let bytes = [l, t, u, i, s, e, 0, 0, 0, 0, 0];
+    Line { bytes, len: 6 }
+}
+
+// A message with data, as it travels.
+fn line_of_data(letter: u8, address: u8, identifier: u8, number: i32, decimals: u8) -> Line
+    ensures { λ r. ⌜ r ≡ lineOf (spell (message letter address identifier (Body.Set number decimals))) ⌝ }
+{
+    let front = put_address(Line::new().put(letter), address);
+    let hash = front.put(identifier).put(b'#');
+    put_data(hash, number, decimals).put(b'*')
 }
 
 // The message as it travels, `*` included.
 pub fn spell(message: Message) -> Line
     ensures { λ r. ⌜ r ≡ lineOf (spell message) ⌝ }
 {
-    let letter = Line::new().put(message.letter);
-    let address = put_address(letter, message.address);
-    let identifier = address.put(message.identifier);
+    let letter = message.letter;
+    let address = message.address;
+    let identifier = message.identifier;
     let body = message.body;
-    put_body(identifier, body).put(b'*')
+    let Body::Set { number, decimals } = body else {
+        return line_of_sign(letter, address, identifier, sign(body));
+    };
+    line_of_data(letter, address, identifier, number, decimals)
 }
 
 fn address_len(address: u8) -> usize

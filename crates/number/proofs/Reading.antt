@@ -109,10 +109,11 @@ abbrev pub lastDigits : ℕ → ℕ → List ℕ
 lastDigits zero n = []
 lastDigits (suc k) n = lastDigits k (n / 10) ++ digit (n % 10) ∷ []
 
--- x is what the characters cs read as: their value so far, or a number that is written as cs again unless that was minus zero
+-- x is what the characters cs read as: their value so far, or a number that is written as cs again unless that was minus zero,
+-- and then they are five
 abbrev pub Read : List ℕ → Data → Type 0
 Read cs (Partial k n) = (k ≤ 4) × (n < 10 ^ k) × (cs ≡ lastDigits k n)
-Read cs (Number n d) = (fits n d ≡ true) × ((n ≡ pos 0 → digitOf (getD cs 4 0) ≤ 3) → spellData n d ≡ cs)
+Read cs (Number n d) = (fits n d ≡ true) × ((n ≡ pos 0 → digitOf (getD cs 4 0) ≤ 3) → spellData n d ≡ cs) × (length cs ≡ 5)
 Read cs Invalid = Unit {0}
 
 small : (k n : ℕ) → k ≤ 4 → n < 10 ^ k → n ≤ 9999
@@ -154,14 +155,15 @@ coded : (n c : ℕ) → isDigit c ≡ true → n ≤ 9999 → Read (lastDigits 4
 unfolding decode spellData codeOf
 coded n c e h =
     choice (Read (lastDigits 4 n ++ c ∷ [])) (leb (digitOf c) 3)
-    (λ t. (within-fits (pos n) (digitOf c) h (leb-true (digitOf c) 3 t), λ z. five-are n c e))
+    (λ t. (within-fits (pos n) (digitOf c) h (leb-true (digitOf c) 3 t), (λ z. five-are n c e), refl))
     (λ t.
     choice (Read (lastDigits 4 n ++ c ∷ [])) (leb 5 (digitOf c) && leb (digitOf c) 8)
     (λ u.
     let low : 5 ≤ digitOf c = leb-true 5 (digitOf c) (and-left (leb 5 (digitOf c)) (leb (digitOf c) 8) u) in
     let high : digitOf c ≤ 8 = leb-true (digitOf c) 8 (and-right (leb 5 (digitOf c)) (leb (digitOf c) 8) u) in (
       within-fits (negℤ (pos n)) (digitOf c - 5) (omega (arith, natAbs-minus (pos n))) (omega arith),
-      λ z. below n (digitOf c) low (λ o. z (ap (λ (m : ℕ). negℤ (pos m)) o)) ∙ five-are n c e,
+      (λ z. below n (digitOf c) low (λ o. z (ap (λ (m : ℕ). negℤ (pos m)) o)) ∙ five-are n c e),
+      refl,
     ))
     (λ u. tt))
 
@@ -194,6 +196,10 @@ read-is cs = read-from [] cs start (lit≤ tt, omega arith, refl)
 -- what is read fits
 pub read-fits : (cs : List ℕ) (n : ℤ) (d : ℕ) → readData cs ≡ Number n d → fits n d ≡ true
 read-fits cs n d e = subst (Read cs) e (read-is cs) .0
+
+-- and has five characters
+pub read-length : (cs : List ℕ) (n : ℤ) (d : ℕ) → readData cs ≡ Number n d → length cs ≡ 5
+read-length cs n d e = subst (Read cs) e (read-is cs) .2
 
 -- what is read is written as the same characters, unless they are minus zero: a zero whose code is not one of 0 to 3
 pub written-read : (cs : List ℕ) (n : ℤ) (d : ℕ) → readData cs ≡ Number n d → (n ≡ pos 0 → digitOf (getD cs 4 0) ≤ 3) → spellData n d ≡ cs

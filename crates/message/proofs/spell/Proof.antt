@@ -1,40 +1,83 @@
--- `message::spell` meets its contract: the parts are put on an empty line one after the other. Assumes nothing.
-use mathlib.Core.Path.{_≡_, sym, ap, _∙_}
-use Rattle.message.proofs.Spelling.{spelled-line}
+-- `message::spell` meets its contract: a body that is no data is one character, and the line is by the one or the other. Assumes nothing.
+use mathlib.Core.Path.{_≡_, refl, sym, ap, _∙_}
+use mathlib.Core.Logic.{inl, inr}
+use mathlib.Core.List.{List, [], _∷_, _++_}
+use Prim.Native.Nat.{ℕ}
+use native.Mathlib.Omega.{arith}
+use denote.Enum.Declared.{tagOf}
+use lib.IntN.{ℤ}
+use lib.ListN.{getD}
+use mir.Syntax.{w32}
+use mir.Val.{SFits}
+use types.Run.{OneOf}
+use Rattle.wire.specs.declared.Line.{Line}
+use Rattle.wire.specs.Line.{lineOf}
+use Rattle.number.proofs.Signed.{rd-is}
+use Rattle.message.specs.declared.Body.{Body}
+use Rattle.message.specs.declared.Body.the-variants.{Status, Query, Up, Down, Set, Store}
+use Rattle.message.specs.declared.Message.{Message}
+use Rattle.message.specs.Message.{star}
+use Rattle.message.specs.Spell.{spellAddress, spellBody, spellOpen, spell}
+use Rattle.message.proofs.Body.{the-type}
 use borrow.Author.Needs.{needs}
 use Rattle.message.proofs.spell.Statement.{statement}
 use Rattle.message.proofs.spell.Tie as tie
 
-new-requires : tie.Need-new-requires
-new-requires c κs = search needs
+never : OneOf (0 ∷ 1 ∷ 2 ∷ 3 ∷ 5 ∷ []) 4 → ⊥
+never (inl e) = omega arith
+never (inr (inl e)) = omega arith
+never (inr (inr (inl e))) = omega arith
+never (inr (inr (inr (inl e)))) = omega arith
+never (inr (inr (inr (inr e)))) = omega arith
 
-put-requires : tie.Need-put-requires
-put-requires c κs = search needs
+-- every body but `Set`, the variant with the number 4
+one : (b : Body) → OneOf (0 ∷ 1 ∷ 2 ∷ 3 ∷ 5 ∷ []) (tagOf the-type b) → getD (spellBody b) 0 0 ∷ [] ≡ spellBody b
+unfolding spellBody
+one Status k = refl
+one Query k = refl
+one Up k = refl
+one Down k = refl
+one (Set n d) k = absurd (never k)
+one Store k = refl
 
-put-address-requires : tie.Need-put-address-requires
-put-address-requires c κs = search needs
+-- a message by its body
+abbrev line : Message → List ℕ → Line
+line m bs = lineOf ((m .letter ∷ (spellAddress (m .address) ++ (m .identifier ∷ bs))) ++ (star ∷ []))
 
-put-requires-2 : tie.Need-put-requires-2
-put-requires-2 c κs = search needs
+enum-known-body : tie.Need-enum-known-body
+enum-known-body c = search needs
 
-put-body-requires : tie.Need-put-body-requires
-put-body-requires c κs = search needs
+sign-requires : tie.Need-sign-requires
+sign-requires c κs = search needs
 
-put-requires-3 : tie.Need-put-requires-3
-put-requires-3 c κs = search needs
+line-of-sign-requires : tie.Need-line-of-sign-requires
+line-of-sign-requires c κs = search needs
 
 returns : tie.Need-returns
+unfolding spell spellOpen
 returns c =
-    spelled-line _ _ _ _ _ _ _ (c .before .before .before .before .before .new .ensures) (c .before .before .before .before .put .ensures) (c .before .before .before .put-address .ensures) (c .before .before .put2 .ensures) (c .before .put-body .ensures) (c .put3 .ensures)
+    let t = c .before .before in
+    let m = t .before .args .message in
+    c .line-of-sign .ensures ∙ ap (line m) (ap (λ (x : ℕ). x ∷ []) (c .before .sign .ensures) ∙ one (m .body) (t .match .keys2))
+
+line-of-data-requires : tie.Need-line-of-data-requires
+line-of-data-requires c κs = search needs
+
+returns-2 : tie.Need-returns-2
+unfolding spell spellOpen
+returns-2 c =
+    let k = c .before in
+    let m = k .before .before .before .args .message in
+    let f : SFits w32 (k .before .body .given .0 .0) = record { sfits = k .known-told .given .0 .1 } in
+    c .line-of-data .ensures ∙ ap (λ (z : ℤ). line m (spellBody (Set z (k .before .body .given .0 .1 .0)))) (rd-is f) ∙ ap (λ (b : Body). line m (spellBody b)) (sym (k .before .body .given .1))
 
 pub spell-spec : {M : Type 1} → statement M
 spell-spec =
     tie.close
     (tie.spec
-    new-requires
-    put-requires
-    put-address-requires
-    put-requires-2
-    put-body-requires
-    put-requires-3
-    returns)
+    enum-known-body
+    sign-requires
+    line-of-sign-requires
+    returns
+    line-of-data-requires
+    returns-2)
