@@ -6,7 +6,6 @@ ghost use lib.ListN.{length, set};
 ghost use Rattle.refusal.specs.Refusal.{outcomeOf, numberOf};
 ghost use Rattle.hearing.specs.Normal.{normalCall};
 ghost use Rattle.reply.specs.Read.{readCall};
-ghost use Rattle.reply.specs.Reply.{markOf};
 ghost use Rattle.sheet.specs.Lookup.{shown};
 ghost use Rattle.message.specs.Scan.{message};
 ghost use Rattle.abi.specs.Result.{minus, counted, resultOf, setOf, bodyOf, asked, writeAsked, lineAsked};
@@ -23,7 +22,6 @@ use refusal::Refusal;
 use refusal::Written;
 use reply::Answer;
 use reply::Content;
-use reply::Mark;
 use reply::Reading;
 
 mod row;
@@ -127,16 +125,6 @@ fn copy(numbers: &[i32], out: &mut [i32])
     }
 }
 
-fn mark_of(mark: Mark) -> u8
-    ensures { λ r. ⌜ r ≡ markOf mark ⌝ }
-{
-    match mark {
-        Mark::Accepted => b'A',
-        Mark::Offered => b'I',
-        Mark::Refused => b'N',
-    }
-}
-
 fn answer_row(answer: Answer) -> [i32; 7]
     ensures { λ r. ⌜ r ≡ answerRow answer ⌝ }
 {
@@ -144,7 +132,7 @@ fn answer_row(answer: Answer) -> [i32; 7]
     let address = row::wide(answer.address);
     let identifier = row::wide(answer.identifier);
     let given = answer.mark;
-    let mark = row::wide(mark_of(given));
+    let mark = row::wide(reply::mark_of(given));
     let content = answer.content;
     match content {
         Content::Empty => [letter, address, identifier, mark, 0, 0, 0],

@@ -1,18 +1,20 @@
 -- Ranges, multiples and the cut. The cut is a multiple of the step, not above x, and no multiple lies between; each is first a
 -- fact of natural numbers, since n - n % s is n / s times s, and then goes by the sign of x. A step is at least 1 by the
 -- test `leZ (pos 1) step`. Assumes nothing.
-use mathlib.Core.Path.{_≡_, refl, sym, ap, _∙_, subst}
-use mathlib.Core.Bool.{true, _&&_, false≢true}
+use mathlib.Core.Path.{_≡_, refl, sym, ap, ap₂, _∙_, subst}
+use mathlib.Core.Bool.{true, false, cond, _&&_, false≢true}
 use Prim.Native.Nat.{ℕ, suc, _+_, _-_, _*_, _/_, _%_, _<_, _≤_}
 use native.Mathlib.Nat.{mod-lt, mul-mod-left, add-mod-right, div-add-mod', div-lt-iff-lt-mul, mul-le-mul-right, suc-mul, le-div-iff-mul-le, le-of-lt, mod-eq-sub-mod, mod-one, zero-mod}
 use native.Mathlib.Omega.{arith}
 use lib.Dec.{eqb, ltb, lit≤}
 use lib.IntN.{ℤ, pos, negsuc, negℤ, natAbs, subℕ, _+ℤ_, _-ℤ_, negℤ-+ℤ, negℤ-negℤ}
 use lib.Signed.{ltZ, leZ}
+use mir.Syntax.{w32}
+use mir.Val.{SFits}
 use borrow.Author.Tests.{eqb-true, eq-eqb, ltb-true, ltb-false, lt-ltb, leb-true, le-leb}
 use Rattle.refusal.proofs.Logic.{and-left, and-right, and-both, choice}
 use Rattle.number.specs.Number.{inRange, isMultiple, isSmall, cutDown, cut, raised, lowered}
-use Rattle.number.proofs.Signed.{step-pos, step-is, natAbs-minus}
+use Rattle.number.proofs.Signed.{rd, rd-is, small-fits, step-pos, step-is, natAbs-minus}
 
 -- ---- a range
 
@@ -220,11 +222,22 @@ down-multiple x (negsuc s) m = absurd (false≢true (multiple-step x (negsuc s) 
 
 -- ---- numbers of four digits
 
-pub both-small : (x y : ℤ) → (isSmall x && isSmall y) ≡ true → (natAbs x ≤ 9999) × (natAbs y ≤ 9999)
-both-small x y e = (
-  in-range-within (negsuc 9998) x (pos 9999) (and-left (isSmall x) (isSmall y) e) (lit≤ tt) (lit≤ tt),
-  in-range-within (negsuc 9998) y (pos 9999) (and-right (isSmall x) (isSmall y) e) (lit≤ tt) (lit≤ tt),
-)
+-- one step from x, as the code takes it: `op` is the sum or the difference
+module _ (op : ℤ → ℤ → ℤ) (short : (x y : ℤ) → natAbs (op x y) ≤ natAbs x + natAbs y) {x y : ℤ} (fx : SFits w32 x) (fy : SFits w32 y) where
+  rd-op : op (rd x) (rd y) ≡ op x y
+  rd-op = ap₂ op (rd-is fx) (rd-is fy)
+
+  pub step-fits : (isSmall x && isSmall y) ≡ true → SFits w32 (op (rd x) (rd y))
+  step-fits e =
+      let a : natAbs x ≤ 9999 = in-range-within (negsuc 9998) x (pos 9999) (and-left (isSmall x) (isSmall y) e) (lit≤ tt) (lit≤ tt) in
+      let b : natAbs y ≤ 9999 = in-range-within (negsuc 9998) y (pos 9999) (and-right (isSmall x) (isSmall y) e) (lit≤ tt) (lit≤ tt) in
+      subst (SFits w32) (sym rd-op) (small-fits (op x y) (omega (arith, short x y)))
+
+  pub step-taken : (isSmall x && isSmall y) ≡ true → rd (op (rd x) (rd y)) ≡ cond (isSmall x && isSmall y) (op x y) x
+  step-taken e = rd-is (step-fits e) ∙ rd-op ∙ sym (rw e)
+
+  pub step-left : (isSmall x && isSmall y) ≡ false → rd x ≡ cond (isSmall x && isSmall y) (op x y) x
+  step-left e = rd-is fx ∙ sym (rw e)
 
 pub raised-is : (x y : ℤ) → natAbs x ≤ 9999 → natAbs y ≤ 9999 → raised x y ≡ x +ℤ y
 unfolding raised

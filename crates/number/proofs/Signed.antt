@@ -1,7 +1,7 @@
 -- Between the bits of an i32, the whole number that a contract speaks of, and the natural number of its magnitude.
 -- A local of type i32 holds bits, so what the code reads of x is `rd x`, which is x where x fits; sums, differences,
 -- quotients and remainders are brought to their magnitudes, since those are natural numbers. Assumes nothing.
-use mathlib.Core.Path.{_≡_, refl, sym, ap, ap₂, _∙_, subst}
+use mathlib.Core.Path.{_≡_, refl, sym, ap, _∙_, subst}
 use mathlib.Core.Bool.{true, false, false≢true}
 use Prim.Native.Nat.{ℕ, zero, suc, _+_, _-_, _/_, _%_, _<_, _≤_, _^_}
 use native.Mathlib.Nat.{div-le-self, mod-le}
@@ -110,20 +110,6 @@ natAbs-add (negsuc a) (negsuc b) = omega arith
 
 pub natAbs-less : (x y : ℤ) → natAbs (x -ℤ y) ≤ natAbs x + natAbs y
 natAbs-less x y = omega (arith, natAbs-add x (negℤ y), natAbs-minus y)
-
--- the sum and the difference of two numbers of four digits, as the code makes them
-module _ {x y : ℤ} (fx : SFits w32 x) (fy : SFits w32 y) where
-  pub rd-add : rd x +ℤ rd y ≡ x +ℤ y
-  rd-add = ap₂ (λ (a b : ℤ). a +ℤ b) (rd-is fx) (rd-is fy)
-
-  pub rd-sub : rd x -ℤ rd y ≡ x -ℤ y
-  rd-sub = ap₂ (λ (a b : ℤ). a -ℤ b) (rd-is fx) (rd-is fy)
-
-  pub add-fits : natAbs x ≤ 9999 → natAbs y ≤ 9999 → SFits w32 (rd x +ℤ rd y)
-  add-fits h k = subst (SFits w32) (sym rd-add) (small-fits (x +ℤ y) (omega (arith, natAbs-add x y)))
-
-  pub sub-fits : natAbs x ≤ 9999 → natAbs y ≤ 9999 → SFits w32 (rd x -ℤ rd y)
-  sub-fits h k = subst (SFits w32) (sym rd-sub) (small-fits (x -ℤ y) (omega (arith, natAbs-less x y)))
 
 -- ---- the remainder by a step of at least 1
 

@@ -37,7 +37,8 @@ pub enum Reading {
     Gave(Answer),
 }
 
-fn mark_of(mark: Mark) -> u8
+// The character of a mark.
+pub fn mark_of(mark: Mark) -> u8
     ensures { λ r. ⌜ r ≡ markOf mark ⌝ }
 {
     match mark {

@@ -1,7 +1,7 @@
 -- The laws of parity, at all bytes at once: each is one test that antt computes at every number below 128 or 256.
 -- And a test of each of a list, as of the words that may be lent. Assumes nothing.
-use mathlib.Core.Path.{_≡_, refl, sym, ap}
-use mathlib.Core.Bool.{Bool, true, false, cond, _&&_, false≢true}
+use mathlib.Core.Path.{_≡_, refl, sym, ap, _∙_, subst}
+use mathlib.Core.Bool.{Bool, true, false, _&&_, false≢true, and-assoc, and-true}
 use mathlib.Core.List.{List, [], _∷_, _++_}
 use Prim.Native.Nat.{ℕ, zero, suc, _+_, _*_, _%_, _<_, _≤_}
 use Prim.Native.Char.{code}
@@ -108,20 +108,6 @@ travelling-length cs = length-map cs withParity
 
 -- ---- a test of each
 
--- from an index on
-module _ (f : ℕ → Bool) (xs : List ℕ) (i : ℕ) (h : i < length xs) where
-  pub every-next : every f (drop i xs) ≡ f (getD xs i 0) && every f (drop (i + 1) xs)
-  unfolding every
-  every-next = rw (add-one, drop-cons xs i 0 h) refl
-
-  pub every-more : f (getD xs i 0) ≡ true → every f (drop i xs) ≡ every f (drop (i + 1) xs)
-  unfolding every
-  every-more e = rw (add-one, drop-cons xs i 0 h) (rw e)
-
-  pub every-not : f (getD xs i 0) ≡ false → every f (drop i xs) ≡ false
-  unfolding every
-  every-not e = rw (drop-cons xs i 0 h) (rw e)
-
 pub every-none : (f : ℕ → Bool) → every f [] ≡ true
 unfolding every
 every-none f = refl
@@ -157,9 +143,35 @@ every-replicate f x e zero (suc k) = and-both e (every-replicate f x e zero k)
 every-replicate f x e (suc n) zero = refl
 every-replicate f x e (suc n) (suc k) = every-replicate f x e n k
 
-pub every-done : (f : ℕ → Bool) (xs : List ℕ) (i : ℕ) → length xs ≤ i → every f (drop i xs) ≡ true
-unfolding every
-every-done f xs i h = rw (drop-of-length-le xs h)
+-- ---- a loop that tests each
+
+-- it has tested i of them, and `so` is whether all of those passed
+pub record Tested (f : ℕ → Bool) (xs : List ℕ) (so : Bool) (i : ℕ) : Type 0 where
+  pub in′ : i ≤ length xs
+  pub rest : every f xs ≡ so && every f (drop i xs)
+
+pub test-starts : (f : ℕ → Bool) (xs : List ℕ) → Tested f xs true 0
+test-starts f xs = record { in′ = omega arith; rest = refl }
+
+module _ (f : ℕ → Bool) (xs : List ℕ) {so : Bool} {i : ℕ} (t : Tested f xs so i) where
+  pub test-more : i < length xs → Tested f xs (so && f (getD xs i 0)) (i + 1)
+  unfolding every
+  test-more h = record {
+    in′ = omega arith;
+    rest = t .rest ∙ rw (add-one, drop-cons xs i 0 h) (sym (and-assoc so (f (getD xs i 0)) (every f (drop (suc i) xs))));
+  }
+
+  pub test-ends : length xs ≤ i → so ≡ every f xs
+  unfolding every
+  test-ends h = sym (t .rest ∙ rw (drop-of-length-le xs h) (and-true so))
+
+-- a loop that stops at the first that fails
+module _ (f : ℕ → Bool) (xs : List ℕ) {i : ℕ} (t : Tested f xs true i) (h : i < length xs) where
+  pub test-passes : f (getD xs i 0) ≡ true → Tested f xs true (i + 1)
+  test-passes e = subst (λ (b : Bool). Tested f xs b (i + 1)) e (test-more f xs t h)
+
+  pub test-fails : f (getD xs i 0) ≡ false → false ≡ every f xs
+  test-fails e = sym (test-more f xs t h .rest ∙ rw e)
 
 -- ---- words that may be lent
 

@@ -1,24 +1,23 @@
 -- `hearing::plain` meets its contract. The loop's invariant: the characters are plain exactly when those from i on are.
 -- Assumes nothing.
-use mathlib.Core.Path.{_≡_, refl, sym, _∙_}
+use mathlib.Core.Bool.{true}
 use borrow.Author.Tests.{not-true, not-false}
-use Prim.Native.Nat.{ℕ, _≤_, _-_}
+use Prim.Native.Nat.{_-_}
 use native.Mathlib.Omega.{arith}
-use lib.ListN.{length, drop}
-use Rattle.wire.specs.Word.{every}
-use Rattle.wire.proofs.Words.{every-more, every-not, every-done}
+use lib.ListN.{length}
+use Rattle.wire.proofs.Words.{Tested, test-starts, test-passes, test-fails, test-ends}
 use Rattle.hearing.specs.Sound.{plainChar, plain}
 use Rattle.hearing.proofs.plain.Statement.{statement}
 use Rattle.hearing.proofs.plain.Tie as tie
 
 abbrev Inv-loop : tie.InvT-loop
-Inv-loop xs i₀ i = (i ≤ length xs) × (every plainChar xs ≡ every plainChar (drop i xs))
+Inv-loop xs i₀ i = Tested plainChar xs true i
 
 abbrev μ-loop : tie.MeasureT-loop
 μ-loop xs i₀ i = length xs - i
 
 loop-holds : tie.Need-loop-holds Inv-loop μ-loop
-loop-holds c = (omega arith, refl)
+loop-holds c = test-starts plainChar (c .args .chars .now)
 
 shared-slice-read-c : tie.Need-shared-slice-read-c Inv-loop μ-loop
 shared-slice-read-c c = omega arith
@@ -27,7 +26,7 @@ returns : tie.Need-returns Inv-loop μ-loop
 unfolding plain plainChar
 returns c =
     let l = c .before .before .before in
-    sym (l .loop .inv .1 ∙ every-not plainChar (l .before .args .chars .now) (l .loop .i) (c .before .before .loop-test .taken) (not-true _ (c .if1 .taken)))
+    test-fails plainChar (l .before .args .chars .now) (l .loop .inv) (c .before .before .loop-test .taken) (not-true _ (c .if1 .taken))
 
 add-i : tie.Need-add-i Inv-loop μ-loop
 add-i c = omega arith
@@ -38,13 +37,12 @@ loop-less c = omega arith
 loop-again : tie.Need-loop-again Inv-loop μ-loop
 loop-again c =
     let l = c .before .before .before in
-    (omega arith, l .loop .inv .1 ∙ every-more plainChar (l .before .args .chars .now) (l .loop .i) (c .before .before .loop-test .taken) (unfold plainChar in not-false _ (c .if1 .left)))
+    test-passes plainChar (l .before .args .chars .now) (l .loop .inv) (c .before .before .loop-test .taken) (unfold plainChar in not-false _ (c .if1 .left))
 
 returns-2 : tie.Need-returns-2 Inv-loop μ-loop
 unfolding plain plainChar
 returns-2 c =
-    let l = c .before in
-    sym (l .loop .inv .1 ∙ every-done plainChar (l .before .args .chars .now) (l .loop .i) (c .loop-test .left))
+    let l = c .before in test-ends plainChar (l .before .args .chars .now) (l .loop .inv) (c .loop-test .left)
 
 pub plain-spec : {M : Type 1} → statement M
 plain-spec =

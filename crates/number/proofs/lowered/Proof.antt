@@ -1,11 +1,10 @@
 -- `number::lowered` meets its contract: the difference of two numbers of four digits fits. Assumes nothing.
-use mathlib.Core.Path.{_≡_, sym, _∙_}
-use mathlib.Core.Bool.{true, false, _&&_}
-use Prim.Native.Nat.{_≤_}
-use lib.IntN.{natAbs}
+use mathlib.Core.Path.{_≡_, _∙_}
+use mathlib.Core.Bool.{_&&_}
+use lib.IntN.{_-ℤ_}
 use Rattle.number.specs.Number.{isSmall, lowered}
-use Rattle.number.proofs.Signed.{rd-is, rd-sub, sub-fits}
-use Rattle.number.proofs.Cuts.{both-small}
+use Rattle.number.proofs.Signed.{rd-is, natAbs-less}
+use Rattle.number.proofs.Cuts.{step-fits, step-taken, step-left}
 use borrow.Author.Needs.{needs}
 use Rattle.number.proofs.lowered.Statement.{statement}
 use Rattle.number.proofs.lowered.Tie as tie
@@ -19,24 +18,19 @@ in-range-requires-2 c κs = search needs
 was : (c : tie.After-in-range2) → (isSmall (c .before .before .args .x) && isSmall (c .before .before .args .step)) ≡ (c .before .in-range .result && c .in-range2 .result)
 was c = cc (rd-is (c .before .before .fits .x), rd-is (c .before .before .fits .step))
 
-small : (c : tie.Then1) → (natAbs (c .before .before .before .args .x) ≤ 9999) × (natAbs (c .before .before .before .args .step) ≤ 9999)
-small c = both-small (c .before .before .before .args .x) (c .before .before .before .args .step) (was (c .before) ∙ c .if1 .taken)
-
 sub-result : tie.Need-sub-result
 sub-result c =
-    let s = c .before .before .before in
-    let b = small c in
-    sub-fits (s .fits .x) (s .fits .step) (b .0) (b .1)
+    let f = c .before .before .before .fits in step-fits _-ℤ_ natAbs-less (f .x) (f .step) (was (c .before) ∙ c .if1 .taken)
 
 returns : tie.Need-returns
 unfolding lowered
 returns c =
-    let s = c .before .before .before in
-    rd-is (sub-result c) ∙ rd-sub (s .fits .x) (s .fits .step) ∙ sym (rw (was (c .before) ∙ c .if1 .taken))
+    let f = c .before .before .before .fits in step-taken _-ℤ_ natAbs-less (f .x) (f .step) (was (c .before) ∙ c .if1 .taken)
 
 returns-2 : tie.Need-returns-2
 unfolding lowered
-returns-2 c = rd-is (c .before .before .before .fits .x) ∙ sym (rw (was (c .before) ∙ c .if1 .left))
+returns-2 c =
+    let f = c .before .before .before .fits in step-left _-ℤ_ natAbs-less (f .x) (f .step) (was (c .before) ∙ c .if1 .left)
 
 pub lowered-spec : {M : Type 1} → statement M
 lowered-spec =

@@ -1,9 +1,9 @@
--- `cases::is_number` is safe and ends: the loop runs through the text. Assumes nothing.
+-- `cases::reader::is_number` is safe and ends: the loop runs through the text. Assumes nothing.
 use Prim.Native.Nat.{_≤_, _-_}
 use lib.ListN.{length}
 use borrow.Author.Needs.{needs}
-use Rattle.cases.proofs.is_number.Statement.{statement}
-use Rattle.cases.proofs.is_number.Tie as tie
+use Rattle.cases.proofs.reader.is_number.Statement.{statement}
+use Rattle.cases.proofs.reader.is_number.Tie as tie
 
 abbrev Inv-loop : tie.InvT-loop
 Inv-loop text i₀ i = i ≤ length text

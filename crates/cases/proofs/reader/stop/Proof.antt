@@ -1,27 +1,24 @@
--- `cases::start` meets its contract: the place stays in the line, and the fields to pass grow fewer. Assumes nothing.
+-- `cases::reader::stop` meets its contract: the loop runs from the first place to the end. Assumes nothing.
 use Prim.Native.Nat.{_≤_, _-_}
 use lib.ListN.{length}
 use borrow.Author.Needs.{needs}
-use Rattle.cases.proofs.start.Statement.{statement}
-use Rattle.cases.proofs.start.Tie as tie
+use Rattle.cases.proofs.reader.stop.Statement.{statement}
+use Rattle.cases.proofs.reader.stop.Tie as tie
 
 abbrev Inv-loop : tie.InvT-loop
-Inv-loop line k at₀ i₀ at i = (at ≤ length line) × (i ≤ k)
+Inv-loop text from mark i₀ i = (from ≤ i) × (i ≤ length text)
 
 abbrev μ-loop : tie.MeasureT-loop
-μ-loop line k at₀ i₀ at i = k - i
+μ-loop text from mark i₀ i = length text - i
 
 loop-holds : tie.Need-loop-holds Inv-loop μ-loop
 loop-holds c = search needs
 
-stop-requires : tie.Need-stop-requires Inv-loop μ-loop
-stop-requires c κs = search needs
+shared-slice-read-if1 : tie.Need-shared-slice-read-if1 Inv-loop μ-loop
+shared-slice-read-if1 c = search needs
 
 returns : tie.Need-returns Inv-loop μ-loop
 returns c = search needs
-
-add-at : tie.Need-add-at Inv-loop μ-loop
-add-at c = search needs
 
 add-i : tie.Need-add-i Inv-loop μ-loop
 add-i c = search needs
@@ -35,16 +32,15 @@ loop-again c = search needs
 returns-2 : tie.Need-returns-2 Inv-loop μ-loop
 returns-2 c = search needs
 
-pub start-spec : {M : Type 1} → statement M
-start-spec =
+pub stop-spec : {M : Type 1} → statement M
+stop-spec =
     tie.close
     (tie.spec
     Inv-loop
     μ-loop
     loop-holds
-    stop-requires
+    shared-slice-read-if1
     returns
-    add-at
     add-i
     loop-less
     loop-again

@@ -1,10 +1,10 @@
--- `cases::each` is safe and ends: the loop runs through the words, and what is lent keeps its length. Assumes nothing.
+-- `cases::player::each` is safe and ends: the loop runs through the words, and what is lent keeps its length. Assumes nothing.
 use mathlib.Core.Path.{_≡_}
 use Prim.Native.Nat.{_≤_, _-_}
 use lib.ListN.{length}
 use borrow.Author.Needs.{needs}
-use Rattle.cases.proofs.each.Statement.{statement}
-use Rattle.cases.proofs.each.Tie as tie
+use Rattle.cases.proofs.player.each.Statement.{statement}
+use Rattle.cases.proofs.player.each.Tie as tie
 
 abbrev Inv-loop : tie.InvT-loop
 Inv-loop bench maker values₀ words out₀ saying₀ i₀ values out saying i = (i ≤ length words) × (length values ≡ length values₀) × (length out ≡ length out₀)

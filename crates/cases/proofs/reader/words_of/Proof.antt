@@ -1,12 +1,12 @@
--- `cases::words_of` meets its contract: each turn passes a character of the message. Assumes nothing.
+-- `cases::reader::words_of` meets its contract: each turn passes a character of the message. Assumes nothing.
 use mathlib.Core.Path.{_≡_, _∙_}
 use Prim.Native.Nat.{_≤_, _-_}
 use borrow.Author.Tests.{ltb-true}
 use native.Mathlib.Omega.{arith}
 use lib.ListN.{length, length-set}
 use borrow.Author.Needs.{needs}
-use Rattle.cases.proofs.words_of.Statement.{statement}
-use Rattle.cases.proofs.words_of.Tie as tie
+use Rattle.cases.proofs.reader.words_of.Statement.{statement}
+use Rattle.cases.proofs.reader.words_of.Tie as tie
 
 abbrev Inv-loop : tie.InvT-loop
 Inv-loop message words₀ at₀ n₀ words at n = (at ≤ length message) × (n ≤ length words) × (length words ≡ length words₀)

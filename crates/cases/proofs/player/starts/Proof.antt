@@ -1,9 +1,9 @@
--- `cases::starts` is safe and ends: the loop runs through the characters. Assumes nothing.
+-- `cases::player::starts` is safe and ends: the loop runs through the characters. Assumes nothing.
 use Prim.Native.Nat.{_≤_, _-_}
 use lib.ListN.{length}
 use borrow.Author.Needs.{needs}
-use Rattle.cases.proofs.starts.Statement.{statement}
-use Rattle.cases.proofs.starts.Tie as tie
+use Rattle.cases.proofs.player.starts.Statement.{statement}
+use Rattle.cases.proofs.player.starts.Tie as tie
 
 abbrev Inv-loop : tie.InvT-loop
 Inv-loop bytes characters i₀ i = i ≤ length characters

@@ -1,10 +1,10 @@
--- `cases::messages` is safe and ends: the messages are counted up to the most there may be. Assumes nothing.
+-- `cases::player::messages` is safe and ends: the messages are counted up to the most there may be. Assumes nothing.
 use mathlib.Core.Path.{_≡_}
 use Prim.Native.Nat.{_≤_, _-_}
 use lib.ListN.{length}
 use borrow.Author.Needs.{needs}
-use Rattle.cases.proofs.messages.Statement.{statement}
-use Rattle.cases.proofs.messages.Tie as tie
+use Rattle.cases.proofs.player.messages.Statement.{statement}
+use Rattle.cases.proofs.player.messages.Tie as tie
 
 abbrev Inv-loop : tie.InvT-loop
 Inv-loop at-once bench maker values₀ line held₀ k₀ values held k = (k ≤ 8) × (length values ≡ length values₀)

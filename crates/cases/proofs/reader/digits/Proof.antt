@@ -1,9 +1,9 @@
--- `cases::digits` is safe and ends: the loop runs through the text. Assumes nothing.
+-- `cases::reader::digits` is safe and ends: the loop runs through the text. Assumes nothing.
 use Prim.Native.Nat.{_≤_, _-_}
 use lib.ListN.{length}
 use borrow.Author.Needs.{needs}
-use Rattle.cases.proofs.digits.Statement.{statement}
-use Rattle.cases.proofs.digits.Tie as tie
+use Rattle.cases.proofs.reader.digits.Statement.{statement}
+use Rattle.cases.proofs.reader.digits.Tie as tie
 
 abbrev Inv-loop : tie.InvT-loop
 Inv-loop text n₀ i₀ n i = i ≤ length text

@@ -1,9 +1,9 @@
--- `cases::message` is safe: the words of the message lie in their array. Assumes nothing.
+-- `cases::player::message` is safe: the words of the message lie in their array. Assumes nothing.
 use mathlib.Core.Path.{sym}
 use lib.Seq.{length-take-le}
 use borrow.Author.Needs.{needs}
-use Rattle.cases.proofs.message.Statement.{statement}
-use Rattle.cases.proofs.message.Tie as tie
+use Rattle.cases.proofs.player.message.Statement.{statement}
+use Rattle.cases.proofs.player.message.Tie as tie
 
 slice-aggregate-words-of : tie.Need-slice-aggregate-words-of
 slice-aggregate-words-of c = search needs

@@ -1,0 +1,254 @@
+// A case on a card: its messages at once and word by word, and each answer compared.
+use crate::reader::change;
+use crate::reader::field;
+use crate::reader::start;
+use crate::reader::words_of;
+use act::Offer;
+use card::Card;
+use card::Taken;
+use hearing::Pending;
+use refusal::Written;
+
+// The words of a message, and the bytes of the replies to it.
+const WORDS: usize = 64;
+
+const REPLIES: usize = 64;
+
+// The most messages that a case has.
+const MESSAGES: usize = 8;
+
+pub(crate) enum Outcome {
+    Same,
+    Differs(usize),
+}
+
+// The card after a message, and whether it said what was expected.
+struct Played {
+    card: Card,
+    same: bool,
+}
+
+// The card after some words, and how many bytes it has said; `fine` where no call was refused.
+struct Saying {
+    card: Card,
+    said: usize,
+    fine: bool,
+}
+
+// Whether the first bytes are these characters in good parity.
+fn starts(bytes: &[u8], characters: &[u8]) -> bool {
+    let mut i = 0;
+    while i < characters.len() {
+        if bytes.len() <= i {
+            return false;
+        }
+        if bytes[i] != wire::with_parity(characters[i]) {
+            return false;
+        }
+        i += 1;
+    }
+    true
+}
+
+// Whether the `said` first bytes are the answer.
+fn is_answer(bytes: &[u8], said: usize, answer: &[u8]) -> bool {
+    if answer.len() == 0 {
+        return false;
+    }
+    if answer[0] == b'-' {
+        return said == 0;
+    }
+    if said == answer.len() {
+        starts(bytes, answer)
+    } else {
+        false
+    }
+}
+
+// A message at once.
+fn by_run<'a>(
+    card: Card,
+    bench: &'a [i32],
+    maker: &'a [i32],
+    values: &mut [i32],
+    words: &[u16],
+    answer: &[u8],
+) -> Played {
+    let mut out = [0u8; REPLIES];
+    let ran = card::run(card, bench, maker, values, words, &mut out);
+    let card = ran.card;
+    let taken = ran.answer;
+    let Taken::Took {
+        words: count,
+        bytes: said,
+    } = taken
+    else {
+        return Played { card, same: false };
+    };
+    let same = (count == words.len()) & is_answer(&out, said, answer);
+    Played { card, same }
+}
+
+// One word, whose reply goes behind what was said.
+fn one<'a>(
+    saying: Saying,
+    bench: &'a [i32],
+    maker: &'a [i32],
+    values: &mut [i32],
+    word: u16,
+    out: &mut [u8],
+) -> Saying {
+    let before = saying.card;
+    let said = saying.said;
+    if out.len() < said {
+        return saying;
+    }
+    let stepped = card::step(before, bench, maker, values, word, &mut out[said..]);
+    let card = stepped.card;
+    let answer = stepped.answer;
+    let Written::Wrote(n) = answer else {
+        return Saying {
+            card,
+            said,
+            fine: false,
+        };
+    };
+    if n <= out.len() - said {
+        Saying {
+            card,
+            said: said + n,
+            fine: saying.fine,
+        }
+    } else {
+        Saying {
+            card,
+            said,
+            fine: false,
+        }
+    }
+}
+
+// The words one by one.
+fn each<'a>(
+    card: Card,
+    bench: &'a [i32],
+    maker: &'a [i32],
+    values: &mut [i32],
+    words: &[u16],
+    out: &mut [u8],
+) -> Saying {
+    let mut saying = Saying {
+        card,
+        said: 0,
+        fine: true,
+    };
+    let mut i = 0;
+    while i < words.len() {
+        saying = one(saying, bench, maker, values, words[i], out);
+        i += 1;
+    }
+    saying
+}
+
+// A message word by word.
+fn by_steps<'a>(
+    card: Card,
+    bench: &'a [i32],
+    maker: &'a [i32],
+    values: &mut [i32],
+    words: &[u16],
+    answer: &[u8],
+) -> Played {
+    let mut out = [0u8; REPLIES];
+    let saying = each(card, bench, maker, values, words, &mut out);
+    let card = saying.card;
+    let same = saying.fine & is_answer(&out, saying.said, answer);
+    Played { card, same }
+}
+
+// A message, at once or word by word.
+fn message<'a>(
+    at_once: bool,
+    card: Card,
+    bench: &'a [i32],
+    maker: &'a [i32],
+    values: &mut [i32],
+    sent: &[u8],
+    answer: &[u8],
+) -> Played {
+    let mut words = [0u16; WORDS];
+    let n = words_of(sent, &mut words);
+    if n == WORDS {
+        return Played { card, same: false };
+    }
+    if at_once {
+        by_run(card, bench, maker, values, &words[..n], answer)
+    } else {
+        by_steps(card, bench, maker, values, &words[..n], answer)
+    }
+}
+
+// The messages of a case, one after the other, to the end of the line.
+fn messages<'a>(
+    at_once: bool,
+    card: Card,
+    bench: &'a [i32],
+    maker: &'a [i32],
+    values: &mut [i32],
+    line: &[u8],
+) -> Outcome {
+    let mut held = card;
+    let mut k: usize = 0;
+    while k < MESSAGES {
+        let sent = field(line, 3 + 2 * k);
+        if sent.len() == 0 {
+            break;
+        }
+        let answer = field(line, 4 + 2 * k);
+        let played = message(at_once, held, bench, maker, values, sent, answer);
+        if !played.same {
+            return Outcome::Differs(k + 1);
+        }
+        held = played.card;
+        k += 1;
+    }
+    if k == 0 {
+        return Outcome::Differs(0);
+    }
+    if start(line, 3 + 2 * k) < line.len() {
+        return Outcome::Differs(k + 1);
+    }
+    Outcome::Same
+}
+
+fn fresh(letter: u8) -> Card {
+    let pending = Pending::new();
+    let offer = Offer::Nothing;
+    Card {
+        letter,
+        address: 7,
+        pending,
+        offer,
+    }
+}
+
+// A case on a card, both ways, each from the values at the start.
+pub(crate) fn both<'a>(
+    letter: u8,
+    bench: &'a [i32],
+    maker: &'a [i32],
+    values: [i32; 128],
+    line: &[u8],
+) -> Outcome {
+    let text = field(line, 2);
+    let mut first = values;
+    if !change(&mut first, text) {
+        return Outcome::Differs(0);
+    }
+    let mut second = first;
+    let outcome = messages(true, fresh(letter), bench, maker, &mut first, line);
+    let Outcome::Same = outcome else {
+        return outcome;
+    };
+    messages(false, fresh(letter), bench, maker, &mut second, line)
+}
