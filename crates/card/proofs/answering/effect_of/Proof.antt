@@ -6,8 +6,8 @@ use Rattle.hearing.specs.Hearing.{none}
 use Rattle.card.specs.declared.Card.{Card}
 use Rattle.card.specs.Turn.{effectOf}
 use Rattle.card.proofs.Turns.{effect-unheard, effect-index}
-use Rattle.card.proofs.effect_of.Statement.{statement}
-use Rattle.card.proofs.effect_of.Tie as tie
+use Rattle.card.proofs.answering.effect_of.Statement.{statement}
+use Rattle.card.proofs.answering.effect_of.Tie as tie
 
 -- the card as far as it matters
 abbrev held : tie.Start → Card

@@ -9,8 +9,8 @@ use Rattle.card.proofs.Turns.{turn-ignore, turn-open, turn-add, turn-cl
 use borrow.Author.Needs.{needs}
 use Rattle.card.proofs.Card.close.Reads as Card-close-reads
 use Rattle.hearing.proofs.Pending.close.Reads as Pending-close-reads
-use Rattle.card.proofs.decide.Statement.{statement}
-use Rattle.card.proofs.decide.Tie as tie
+use Rattle.card.proofs.answering.decide.Statement.{statement}
+use Rattle.card.proofs.answering.decide.Tie as tie
 
 action-requires : tie.Need-action-requires
 action-requires c κs = search needs

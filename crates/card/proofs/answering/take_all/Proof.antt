@@ -28,8 +28,8 @@ use Rattle.card.specs.Calls.{Ends}
 use Rattle.card.specs.Turn.{effectOf, withBoth, turned, turn, Played, stopped, play}
 use Rattle.card.proofs.Turns.{effect-open, turn-closes}
 use Rattle.card.proofs.Runs.{onward, Carried, starts, begins, turned as turned-on, carried-reached, no-room, ends, over}
-use Rattle.card.proofs.take_all.Statement.{statement}
-use Rattle.card.proofs.take_all.Tie as tie
+use Rattle.card.proofs.answering.take_all.Statement.{statement}
+use Rattle.card.proofs.answering.take_all.Tie as tie
 
 -- the card as the loop has it
 abbrev cardOf : ℕ → ℕ → Offer → Reached → Card

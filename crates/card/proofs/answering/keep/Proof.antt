@@ -8,8 +8,8 @@ use mir.Val.{SFits}
 use Rattle.number.proofs.Signed.{rd-is}
 use Rattle.card.specs.Turn.{stored}
 use borrow.Author.Needs.{needs}
-use Rattle.card.proofs.keep.Statement.{statement}
-use Rattle.card.proofs.keep.Tie as tie
+use Rattle.card.proofs.answering.keep.Statement.{statement}
+use Rattle.card.proofs.answering.keep.Tie as tie
 
 enum-known-store : tie.Need-enum-known-store
 enum-known-store c = search needs

@@ -3,8 +3,8 @@ use mathlib.Core.Path.{_≡_, refl, sym, ap, ap₂, _∙_}
 use Rattle.act.specs.declared.Said.{Said}
 use Rattle.card.specs.Turn.{replyOf}
 use borrow.Author.Needs.{needs}
-use Rattle.card.proofs.reply_of.Statement.{statement}
-use Rattle.card.proofs.reply_of.Tie as tie
+use Rattle.card.proofs.answering.reply_of.Statement.{statement}
+use Rattle.card.proofs.answering.reply_of.Tie as tie
 
 enum-told : tie.Need-enum-told
 enum-told c = search needs

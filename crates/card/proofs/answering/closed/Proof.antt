@@ -7,8 +7,8 @@ use Rattle.card.specs.declared.Card.{Card}
 use Rattle.card.specs.declared.Turn.{Turn}
 use Rattle.card.specs.Turn.{withBoth, turned}
 use Rattle.card.proofs.Turns.{effect-open}
-use Rattle.card.proofs.closed.Statement.{statement}
-use Rattle.card.proofs.closed.Tie as tie
+use Rattle.card.proofs.answering.closed.Statement.{statement}
+use Rattle.card.proofs.answering.closed.Tie as tie
 
 index-requires : tie.Need-index-requires
 index-requires c κs = search needs

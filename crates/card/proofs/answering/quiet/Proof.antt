@@ -4,8 +4,8 @@ use Rattle.wire.specs.declared.Line.{Line}
 use Rattle.act.specs.declared.Store.the-variants.{Keep}
 use Rattle.card.specs.declared.Turn.{Turn}
 use borrow.Author.Needs.{needs}
-use Rattle.card.proofs.quiet.Statement.{statement}
-use Rattle.card.proofs.quiet.Tie as tie
+use Rattle.card.proofs.answering.quiet.Statement.{statement}
+use Rattle.card.proofs.answering.quiet.Tie as tie
 
 new-requires : tie.Need-new-requires
 new-requires c κs = search needs
