@@ -2,8 +2,11 @@
 ghost use mathlib.Core.Path.{_≡_};
 ghost use Prim.Native.Nat.{_≤_};
 ghost use lib.ListN.{length, getD, drop};
-ghost use Rattle.wire.specs.Line.{puts, lineOf, bytesOf};
-ghost use Rattle.reply.specs.Reply.{markOf, spellContent, spellAnswer, fitsContent, isAnswer};
+ghost use mathlib.Core.List.{[], _∷_, _++_};
+ghost use Rattle.wire.specs.Line.{lineOf, bytesOf};
+ghost use Rattle.message.specs.Message.{star};
+ghost use Rattle.message.specs.Spell.{spellAddress};
+ghost use Rattle.reply.specs.Reply.{markOf, spellAnswer, fitsContent, isAnswer};
 ghost use Rattle.number.specs.Data.{digitOf, spellData};
 ghost use Rattle.reply.specs.Read.{charactersOf, guessMark, contentOf, guessBehind, guess, same, readCall, outcomeOf};
 use number::Data;
@@ -48,26 +51,51 @@ pub fn mark_of(mark: Mark) -> u8
     }
 }
 
-fn put_content(line: Line, content: Content) -> Line
-    ensures { λ r. ⌜ r ≡ puts line (spellContent content) ⌝ }
+// The reply of an answer with a number, from its five digits.
+fn line_of_data(letter: u8, address: u8, identifier: u8, digits: [u8; 5], mark: u8) -> Line
+    ensures { λ r. ⌜ r ≡ lineOf (letter ∷ (spellAddress address ++ (identifier ∷ getD digits 0 0 ∷ getD digits 1 0 ∷ getD digits 2 0 ∷ getD digits 3 0 ∷ getD digits 4 0 ∷ mark ∷ star ∷ []))) ⌝ }
 {
-    match content {
-        Content::Empty => line,
-        Content::Number { number, decimals } => message::put_data(line, number, decimals),
+    let l = wire::with_parity(letter);
+    let i = wire::with_parity(identifier);
+    let a = wire::with_parity(digits[0]);
+    let b = wire::with_parity(digits[1]);
+    let c = wire::with_parity(digits[2]);
+    let d = wire::with_parity(digits[3]);
+    let k = wire::with_parity(digits[4]);
+    let m = wire::with_parity(mark);
+    let e = wire::with_parity(b'*');
+    if address <= 9 {
+        let n = wire::with_parity(48 + address);
+        let bytes = [l, n, i, a, b, c, d, k, m, e, 0];
+        return Line { bytes, len: 10 };
     }
+    let t = wire::with_parity(48 + address / 10);
+    let u = wire::with_parity(48 + address % 10);
+    let bytes = [l, t, u, i, a, b, c, d, k, m, e];
+    Line { bytes, len: 11 }
 }
 
 // The reply as it travels, `*` included.
 pub fn spell(answer: Answer) -> Line
     ensures { λ r. ⌜ r ≡ lineOf (spellAnswer answer) ⌝ }
 {
-    let letter = Line::new().put(answer.letter);
-    let address = message::put_address(letter, answer.address);
-    let identifier = address.put(answer.identifier);
+    let letter = answer.letter;
+    let address = answer.address;
+    let identifier = answer.identifier;
+    let given = answer.mark;
+    let mark = mark_of(given);
     let content = answer.content;
-    let number = put_content(identifier, content);
-    let mark = answer.mark;
-    number.put(mark_of(mark)).put(b'*')
+    let Content::Number { number, decimals } = content else {
+        let front = message::put_address(Line::new().put(letter), address);
+        return front.put(identifier).put(mark).put(b'*');
+    };
+    line_of_data(
+        letter,
+        address,
+        identifier,
+        number::write_data(number, decimals),
+        mark,
+    )
 }
 
 fn fits_content(identifier: u8, mark: Mark, content: Content) -> bool

@@ -1,10 +1,47 @@
--- `reply::spell` meets its contract: the parts are put on an empty line one after the other. Assumes nothing.
-use mathlib.Core.Path.{_≡_, ap, _∙_}
-use Rattle.wire.specs.Line.{put}
-use Rattle.reply.proofs.Spelled.{answer-line}
+-- `reply::spell` meets its contract: without a number the parts are put on an empty line one after the other, and with one its five
+-- digits stand between identifier and mark. Assumes nothing.
+use mathlib.Core.Path.{_≡_, refl, sym, ap, ap₂, _∙_}
+use mathlib.Core.List.{List, [], _∷_, _++_}
+use Prim.Native.Nat.{ℕ}
 use borrow.Author.Needs.{needs}
+use lib.IntN.{ℤ}
+use lib.ListN.{getD}
+use Rattle.wire.specs.declared.Line.{Line}
+use Rattle.wire.specs.Line.{puts, put, lineOf}
+use Rattle.number.specs.Data.{fiveDigits, spellData}
+use Rattle.number.proofs.Signed.{rd-is}
+use Rattle.message.specs.Message.{star}
+use Rattle.message.specs.Spell.{spellAddress}
+use Rattle.reply.specs.declared.Content.{Content}
+use Rattle.reply.specs.declared.Content.the-variants.{Empty, Number}
+use Rattle.reply.specs.declared.Answer.{Answer}
+use Rattle.reply.specs.Reply.{markOf, spellContent, spellAnswer}
+use Rattle.reply.proofs.Spelled.{answer-line}
 use Rattle.reply.proofs.spell.Statement.{statement}
 use Rattle.reply.proofs.spell.Tie as tie
+
+nothing-put : (l : Line) (x : Content) → x ≡ Empty → l ≡ puts l (spellContent x)
+unfolding puts spellContent
+nothing-put l x e = sym (ap (λ (y : Content). puts l (spellContent y)) e)
+
+-- the characters of an answer with a number
+abbrev withDigits : ℕ → ℕ → ℕ → List ℕ → ℕ → List ℕ
+withDigits l a i digits m =
+    l ∷ (spellAddress a ++ (i ∷ getD digits 0 0 ∷ getD digits 1 0 ∷ getD digits 2 0 ∷ getD digits 3 0 ∷ getD digits 4 0 ∷ m ∷ star ∷ []))
+
+number-spelled : (a : Answer) (n : ℤ) (d : ℕ) → a .content ≡ Number n d → withDigits (a .letter) (a .address) (a .identifier) (spellData n d) (markOf (a .mark)) ≡ spellAnswer a
+unfolding spellAnswer spellContent spellData fiveDigits
+number-spelled a n d e =
+    sym (ap (λ (x : Content). a .letter ∷ (spellAddress (a .address) ++ (a .identifier ∷ (spellContent x ++ (markOf (a .mark) ∷ star ∷ []))))) e)
+
+mark-of-requires : tie.Need-mark-of-requires
+mark-of-requires c κs = search needs
+
+enum-known-content : tie.Need-enum-known-content
+enum-known-content c = search needs
+
+enum-told : tie.Need-enum-told
+enum-told c = search needs
 
 new-requires : tie.Need-new-requires
 new-requires c κs = search needs
@@ -18,12 +55,6 @@ put-address-requires c κs = search needs
 put-requires-2 : tie.Need-put-requires-2
 put-requires-2 c κs = search needs
 
-put-content-requires : tie.Need-put-content-requires
-put-content-requires c κs = search needs
-
-mark-of-requires : tie.Need-mark-of-requires
-mark-of-requires c κs = search needs
-
 put-requires-3 : tie.Need-put-requires-3
 put-requires-3 c κs = search needs
 
@@ -32,20 +63,44 @@ put-requires-4 c κs = search needs
 
 returns : tie.Need-returns
 returns c =
-    let l = c .before .before .before .before .before .before .before in
-    answer-line (l .before .args .answer) _ _ _ _ _ _ _ (l .new .ensures) (c .before .before .before .before .before .before .put .ensures) (c .before .before .before .before .before .put-address .ensures)
-    (c .before .before .before .before .put2 .ensures) (c .before .before .before .put-content .ensures) (c .before .put3 .ensures ∙ ap (put (c .before .before .before .put-content .result)) (c .before .before .mark-of .ensures)) (c .put4 .ensures)
+    let i = c .before .before in
+    let l = i .before .before .before in
+    let k = l .before .before .before in
+    answer-line (k .before .args .answer) _ _ _ _ _ _ _ (l .new .ensures) (i .before .before .put .ensures) (i .before .put-address .ensures)
+    (i .put2 .ensures) (nothing-put (i .put2 .result) (k .before .args .answer .content) (l .before .enum-told .given .1)) (c .before .put3 .ensures ∙ ap (put (i .put2 .result)) (k .mark-of .ensures)) (c .put4 .ensures)
+
+write-data-requires : tie.Need-write-data-requires
+write-data-requires c κs = search needs
+
+line-of-data-requires : tie.Need-line-of-data-requires
+line-of-data-requires c κs = search needs
+
+returns-2 : tie.Need-returns-2
+returns-2 c =
+    let w = c .before in
+    let n = w .before in
+    let k = n .before .before .before in
+    let a = k .before .args .answer in
+    let o = n .before .content .given in
+    c .line-of-data .ensures
+    ∙ ap lineOf
+    (ap₂ (withDigits (a .letter) (a .address) (a .identifier)) (w .write-data .ensures ∙ ap (λ (z : ℤ). spellData z (o .0 .1 .0)) (rd-is {z = o .0 .0} (record { sfits = n .known-told .given .0 .1 }))) (k .mark-of .ensures)
+    ∙ number-spelled a (o .0 .0) (o .0 .1 .0) (o .1))
 
 pub spell-spec : {M : Type 1} → statement M
 spell-spec =
     tie.close
     (tie.spec
+    mark-of-requires
+    enum-known-content
+    enum-told
     new-requires
     put-requires
     put-address-requires
     put-requires-2
-    put-content-requires
-    mark-of-requires
     put-requires-3
     put-requires-4
-    returns)
+    returns
+    write-data-requires
+    line-of-data-requires
+    returns-2)
