@@ -2,7 +2,7 @@
 //!
 //! - `KAV_ARCHIVE`, or `../target/staticlib/libabi.a`, is linked when it exists.
 //! - Feature `archive`: it must exist, otherwise the build fails.
-//! - Feature `stand-in`: nothing is linked; src/standin.rs defines the seven functions.
+//! - Feature `stand-in`: nothing is linked; src/standin/ defines the seven functions.
 //!
 //! `cfg(kav_linked)` tells the rest of the crate that the seven functions can be called.
 

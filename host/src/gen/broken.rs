@@ -1,0 +1,129 @@
+//! Everything that can be wrong with what is lent: card, offer, sheets, values and words.
+
+use super::{identifiers, value, Rng, Row, World};
+
+/// Makes a card's row unsound in itself, whatever its offer and the sheets.
+pub fn break_card(rng: &mut Rng, card: &mut Vec<i32>) {
+    let length = card[2] as usize;
+    match rng.below(14) {
+        0 => card.truncate(rng.below(16)),
+        1 => card.push(rng.wild()),
+        2 => card[0] = rng.pick(&[0, 75, 77, 0xCC, 0xD2, 76 + 256, -76, i32::MIN, i32::MAX]),
+        3 => card[1] = rng.pick(&[0, 100, -1, -7, 256, 263, 355, 65_543, i32::MIN, i32::MAX]),
+        4 => card[2] = rng.pick(&[-1, 11, 12, 128, 255, 256, 266, i32::MIN, i32::MAX]),
+        5 if length > 0 => card[3] = rng.pick(&[0, 42, 75, 0xCC, 76 + 256, -1, i32::MIN]),
+        6 if length > 1 => {
+            let at = 4 + rng.below(length - 1);
+            card[at] = rng.pick(&[42, 128, 0xAA, 255, 256, -1, 42 + 256, i32::MIN, i32::MAX]);
+        }
+        7 if length < 10 => {
+            let at = 3 + length + rng.below(10 - length);
+            card[at] = rng.pick(&[1, 76, 42, 256, -1, i32::MIN]);
+        }
+        // A count that the characters don't bear out.
+        8 if length > 1 && card[2 + length] != 0 => card[2] -= 1,
+        8 | 9 if length == 0 => card[2] = rng.within(1, 10),
+        10 => card[13] = rng.pick(&[2, -1, 256, 257, i32::MIN, i32::MAX]),
+        11 if card[13] == 0 => card[14] = rng.pick(&[1, 109, -1, 256, i32::MIN]),
+        12 if card[13] == 0 => card[15] = rng.pick(&[1, -1, 5, i32::MIN]),
+        // An identifier that isn't a byte.
+        13 => {
+            card[13] = 1;
+            card[14] = rng.pick(&[-1, 256, 256 + 109, i32::MIN, i32::MAX]);
+        }
+        _ => card[0] = 0,
+    }
+}
+
+/// Gives the card an offer that no Type 3 could leave, under sound sheets.
+pub fn break_offer(rng: &mut Rng, world: &mut World) {
+    let absent: Vec<u8> =
+        (0..=255u8).filter(|&code| world.rows.iter().all(|row| row[0] != i32::from(code))).collect();
+    let read_only: Vec<Row> = world.rows.iter().copied().filter(|row| row[1] == 1).collect();
+    let written: Vec<Row> = world.rows.iter().copied().filter(|row| row[1] != 1).collect();
+    let wrong = match rng.below(5) {
+        0 if !read_only.is_empty() => {
+            let row = rng.pick(&read_only);
+            [1, row[0], value(rng, &row)]
+        }
+        1 if !written.is_empty() => {
+            let row = rng.pick(&written);
+            [1, row[0], rng.pick(&[row[5] + row[3], row[5] + 1, i32::MAX])]
+        }
+        2 if !written.is_empty() => {
+            let row = rng.pick(&written);
+            [1, row[0], rng.pick(&[row[4] - row[3], row[4] - 1, i32::MIN])]
+        }
+        3 if written.iter().any(|row| row[3] > 1 && row[4] < row[5]) => {
+            let rows: Vec<Row> = written.into_iter().filter(|row| row[3] > 1 && row[4] < row[5]).collect();
+            let row = rng.pick(&rows);
+            [1, row[0], row[4] + rng.within(1, row[3] - 1)]
+        }
+        _ => [1, i32::from(rng.pick(&absent)), 0],
+    };
+    world.card[13..].copy_from_slice(&wrong);
+}
+
+/// Makes a sheet unsound.
+pub fn break_sheet(rng: &mut Rng, sheet: &mut Vec<i32>) {
+    if sheet.is_empty() {
+        sheet.extend_from_slice(&[65, 2, 1, 5, -100, 100]);
+    }
+    let rows = sheet.len() / 6;
+    let at = rng.below(rows) * 6;
+    let row = &mut sheet[at..at + 6];
+    match rng.below(14) {
+        0 => sheet.truncate(6 * rows - 1 - rng.below(5)),
+        1 => sheet.extend((0..1 + rng.below(5)).map(|_| 0)),
+        2 => row[0] = rng.pick(&[0, 32, 127, 128, 63, 42, 48, 53, 57, -1, 65 + 256, i32::MIN, i32::MAX]),
+        3 => row[1] = rng.pick(&[0, 4, -1, 258, i32::MIN, i32::MAX]),
+        4 => row[2] = rng.pick(&[-1, 4, 5, 256, i32::MIN, i32::MAX]),
+        5 => row[3] = rng.pick(&[0, -1, 10_000, i32::MIN, i32::MAX]),
+        6 => row[4] = rng.pick(&[row[5] + row[3], row[5] + 1, -10_000, i32::MIN, i32::MAX]),
+        7 => row[5] = rng.pick(&[row[4] - row[3], row[4] - 1, 10_000, i32::MIN, i32::MAX]),
+        8 if row[3] > 1 && row[4] < row[5] => row[4] += rng.within(1, row[3] - 1),
+        9 if row[3] > 1 && row[4] < row[5] => row[5] -= rng.within(1, row[3] - 1),
+        // The same row twice, and two in the wrong order.
+        10 => {
+            let twice = sheet[at..at + 6].to_vec();
+            sheet.splice(at..at, twice);
+        }
+        11 if rows > 1 => {
+            let at = rng.below(rows - 1) * 6;
+            for place in at..at + 6 {
+                sheet.swap(place, place + 6);
+            }
+        }
+        // Sixty-five sound rows.
+        12 => {
+            let codes = identifiers();
+            *sheet = codes[..65].iter().flat_map(|&code| row_of(code)).collect();
+        }
+        _ => row[3] = 0,
+    }
+}
+
+fn row_of(code: u8) -> Row {
+    [i32::from(code), 2, 1, 5, -100, 100]
+}
+
+/// Makes values unsound under sound sheets.
+pub fn break_values(rng: &mut Rng, world: &mut World) {
+    if world.rows.is_empty() || rng.percent(30) {
+        let length = rng.pick(&[0, 1, 64, 127, 129, 256]);
+        world.values.resize(length, 0);
+        return;
+    }
+    let row = rng.pick(&world.rows);
+    let value = &mut world.values[row[0] as usize];
+    *value = match rng.below(3) {
+        0 => rng.pick(&[row[5] + row[3], row[5] + 1, i32::MAX]),
+        1 if row[3] > 1 && row[4] < row[5] => row[4] + rng.within(1, row[3] - 1),
+        _ => rng.pick(&[row[4] - row[3], row[4] - 1, i32::MIN]),
+    };
+}
+
+/// A word that is none.
+pub fn wrong_word(rng: &mut Rng) -> u16 {
+    rng.pick(&[257, 258, 300, 0x1CC, 0x1AA, 0x2AA, 0xCC00, 0xFFFF])
+}

@@ -1,0 +1,123 @@
+//! Characters as they travel, the messages sent to a card and the replies it spells.
+
+use super::{identifiers, value, Rng, Row, World};
+
+/// A character as it travels.
+pub fn on_line(character: u8) -> u8 {
+    let seven = character & 0x7F;
+    seven | (((seven.count_ones() & 1) as u8) << 7)
+}
+
+pub fn words_of(text: &[u8]) -> impl Iterator<Item = u16> + '_ {
+    text.iter().map(|&character| u16::from(on_line(character)))
+}
+
+/// Any seven-bit character but `*`.
+pub(super) fn other(rng: &mut Rng) -> u8 {
+    match rng.next() as u8 & 0x7F {
+        b'*' => 0,
+        character => character,
+    }
+}
+
+fn identifier(rng: &mut Rng, world: &World) -> u8 {
+    match rng.below(20) {
+        0 => rng.next() as u8 & 0x7F,
+        1 | 2 => rng.pick(&identifiers()),
+        3 => rng.pick(b"?#+-ILRAN]!~"),
+        _ if world.rows.is_empty() => b'm',
+        _ => rng.pick(&world.rows)[0] as u8,
+    }
+}
+
+/// Five digits for a row: near its edges, most often with its decimals.
+fn digits(rng: &mut Rng, row: Option<&Row>, text: &mut Vec<u8>) {
+    let (number, decimals) = match row {
+        Some(row) => {
+            let number = match rng.below(8) {
+                0 => row[4] + rng.within(-2, 2),
+                1 => row[5] + rng.within(-2, 2),
+                2 => row[5] + row[3],
+                3 => rng.within(-9_999, 9_999),
+                4 => 0,
+                5 => value(rng, row),
+                _ => rng.within(row[4], row[5]),
+            };
+            (number, if rng.percent(90) { row[2] } else { rng.within(0, 3) })
+        }
+        None => (rng.within(-9_999, 9_999), rng.within(0, 3)),
+    };
+    let number = number.clamp(-9_999, 9_999);
+    let minus = number < 0 || (number == 0 && rng.percent(40));
+    let code = match rng.below(30) {
+        0 => 4,
+        1 => 9,
+        _ => decimals + if minus { 5 } else { 0 },
+    };
+    text.extend_from_slice(format!("{:04}{code}", number.abs()).as_bytes());
+}
+
+fn head(rng: &mut Rng, world: &World, text: &mut Vec<u8>) {
+    let letter = world.card[0] as u8;
+    text.push(match rng.below(20) {
+        0 => letter ^ b'L' ^ b'R',
+        1 => rng.pick(b"LR"),
+        _ => letter,
+    });
+    let address = match rng.below(16) {
+        0 => rng.within(0, 110),
+        1 => world.card[1] % 99 + 1,
+        _ => world.card[1],
+    };
+    if address < 10 && rng.percent(30) {
+        text.push(b'0');
+    }
+    text.extend_from_slice(address.to_string().as_bytes());
+}
+
+/// Appends a message with its `*`, most often well formed and for the card.
+pub fn message(rng: &mut Rng, world: &World, text: &mut Vec<u8>) {
+    head(rng, world, text);
+    let code = identifier(rng, world);
+    let kind = rng.below(100);
+    if kind < 8 {
+        text.extend_from_slice(b"??");
+    } else {
+        text.push(code);
+        match kind {
+            8..=29 => text.push(b'?'),
+            30..=44 => text.push(b'+'),
+            45..=59 => text.push(b'-'),
+            60..=74 => text.push(b'I'),
+            75..=97 => {
+                text.push(b'#');
+                let row = world.rows.iter().find(|row| row[0] == i32::from(code));
+                digits(rng, row, text);
+            }
+            _ => text.extend((0..rng.below(8)).map(|_| other(rng))),
+        }
+    }
+    text.push(b'*');
+}
+
+/// A reply as a card spells it, in plain characters.
+pub fn reply(rng: &mut Rng) -> Vec<u8> {
+    let mut text = vec![rng.pick(b"LR")];
+    let address = if rng.percent(50) { rng.within(1, 9) } else { rng.within(1, 99) };
+    text.extend_from_slice(address.to_string().as_bytes());
+    if rng.percent(10) {
+        text.extend_from_slice(b"?A*");
+        return text;
+    }
+    text.push(rng.pick(&identifiers()));
+    let number = match rng.below(4) {
+        0 => rng.within(-3, 3),
+        1 => rng.pick(&[-9_999, 9_999, 0]),
+        _ => rng.within(-9_999, 9_999),
+    };
+    let code = rng.within(0, 3) + if number < 0 { 5 } else { 0 };
+    text.extend_from_slice(format!("{:04}{code}", number.abs()).as_bytes());
+    text.push(rng.pick(b"AIN"));
+    text.push(b'*');
+    text
+}

@@ -1,0 +1,145 @@
+//! Sound rows, sheets and values, and a whole card with all that is lent beside it.
+
+use super::message::other;
+use super::{message, Rng};
+
+pub type Row = [i32; 6];
+
+/// The 82 identifiers that a sheet can have.
+pub fn identifiers() -> Vec<u8> {
+    (33..=126u8).filter(|code| !code.is_ascii_digit() && *code != b'*' && *code != b'?').collect()
+}
+
+pub fn row(rng: &mut Rng, identifier: u8) -> Row {
+    let step = match rng.below(4) {
+        0 => 1,
+        1 => rng.pick(&[2, 5, 10, 25, 100, 1000, 3333, 5000, 9998, 9999]),
+        2 => rng.within(1, 20),
+        _ => rng.within(1, 9_999),
+    };
+    let most = 9_999 / step;
+    let (mut least, mut greatest) = match rng.below(4) {
+        0 => (-most, most),
+        1 => (0, rng.within(0, most)),
+        2 => {
+            let least = rng.within(-most, most);
+            (least, (least + rng.within(0, 3)).min(most))
+        }
+        _ => (rng.within(-most, most), rng.within(-most, most)),
+    };
+    if least > greatest {
+        std::mem::swap(&mut least, &mut greatest);
+    }
+    let access = rng.pick(&[1, 2, 2, 3]);
+    [i32::from(identifier), access, rng.within(0, 3), step, least * step, greatest * step]
+}
+
+/// A sound sheet with so many rows, at most 64.
+pub fn sheet(rng: &mut Rng, rows: usize) -> Vec<i32> {
+    let mut codes = identifiers();
+    while codes.len() > rows {
+        let out = rng.below(codes.len());
+        codes.remove(out);
+    }
+    codes.into_iter().flat_map(|code| row(rng, code)).collect()
+}
+
+fn some_rows(rng: &mut Rng) -> usize {
+    match rng.below(8) {
+        0 => 0,
+        1 => 64,
+        2 => rng.below(65),
+        _ => 1 + rng.below(6),
+    }
+}
+
+/// A value that a row admits.
+pub fn value(rng: &mut Rng, row: &Row) -> i32 {
+    let [_, _, _, step, least, greatest] = *row;
+    match rng.below(4) {
+        0 => least,
+        1 => greatest,
+        _ => rng.within(least / step, greatest / step) * step,
+    }
+}
+
+/// A sound card, sheets and values.
+#[derive(Clone, Debug)]
+pub struct World {
+    pub card: Vec<i32>,
+    pub bench: Vec<i32>,
+    pub maker: Vec<i32>,
+    pub values: Vec<i32>,
+    /// The rows that hold.
+    pub rows: Vec<Row>,
+}
+
+pub fn rows_of(sheet: &[i32]) -> impl Iterator<Item = Row> + '_ {
+    sheet.chunks_exact(6).map(|row| [row[0], row[1], row[2], row[3], row[4], row[5]])
+}
+
+impl World {
+    /// With so many rows in the sheets, no message open and no offer.
+    pub fn with_rows(rng: &mut Rng, bench: usize, maker: usize) -> World {
+        let (bench, maker) = (sheet(rng, bench), sheet(rng, maker));
+        let mut rows: Vec<Row> = rows_of(&bench).collect();
+        for row in rows_of(&maker) {
+            if rows.iter().all(|other| other[0] != row[0]) {
+                rows.push(row);
+            }
+        }
+        let mut values: Vec<i32> = (0..128).map(|_| rng.wild()).collect();
+        for row in &rows {
+            values[row[0] as usize] = value(rng, row);
+        }
+        let mut card = vec![0; 16];
+        card[0] = i32::from(rng.pick(b"LR"));
+        card[1] = if rng.percent(50) { rng.within(1, 9) } else { rng.within(1, 99) };
+        World { card, bench, maker, values, rows }
+    }
+
+    pub fn new(rng: &mut Rng) -> World {
+        let (bench, maker) = (some_rows(rng), some_rows(rng));
+        let mut world = World::with_rows(rng, bench, maker);
+        if rng.percent(40) {
+            world.offer(rng);
+        }
+        if rng.percent(50) {
+            world.open(rng);
+        }
+        world
+    }
+
+    /// Makes a sound offer, if a row can be written.
+    pub fn offer(&mut self, rng: &mut Rng) {
+        let rows: Vec<Row> = self.rows.iter().copied().filter(|row| row[1] != 1).collect();
+        if !rows.is_empty() {
+            let row = rng.pick(&rows);
+            self.card[13..].copy_from_slice(&[1, row[0], value(rng, &row)]);
+        }
+    }
+
+    /// Opens a message: most often one that the next `*` closes well.
+    pub fn open(&mut self, rng: &mut Rng) {
+        let mut text = Vec::new();
+        message(rng, self, &mut text);
+        if text[0] != b'L' && text[0] != b'R' {
+            text[0] = b'L';
+        }
+        text.retain(|&character| character != b'*');
+        match rng.below(8) {
+            0 => text.truncate(1 + rng.below(text.len())),
+            1 => text.extend((0..10).map(|_| other(rng))),
+            2 => {
+                text.truncate(1);
+                text.extend((0..rng.below(10)).map(|_| other(rng)));
+            }
+            _ => {}
+        }
+        text.truncate(10);
+        self.card[2] = text.len() as i32;
+        for place in 0..10 {
+            self.card[3 + place] = text.get(place).map_or(0, |&character| i32::from(character));
+        }
+    }
+}

@@ -1,0 +1,158 @@
+//! The normal form, the writer of messages and the reader of replies.
+
+use super::{heard, line, text, words};
+use crate::reference::calls;
+use crate::reference::message::{write, Data, Kind, Message};
+use crate::reference::normal::normal_form;
+use crate::reference::reply::{read, Answer};
+use crate::reference::Refusal;
+
+pub(super) fn the_normal_form() {
+    let sent = [&[256, 0x4C][..], &words("zL07M?*R70m#00006*L7mI*L0??*L123456789abL7?")].concat();
+    let normal = words("L7M?*R70m#00001*L7mI*");
+    for room in 0..sent.len() + 3 {
+        let mut out = vec![0xEEEE; room];
+        let got = normal_form(&sent, &mut out);
+        if room < normal.len() {
+            assert_eq!(got, Err(Refusal::Room));
+            assert!(out.iter().all(|&word| word == 0xEEEE));
+        } else {
+            assert_eq!(got, Ok(normal.len()));
+            assert_eq!(out[..normal.len()], normal);
+            assert!(out[normal.len()..].iter().all(|&word| word == 0xEEEE));
+        }
+    }
+    assert_eq!(normal_form(&[], &mut []), Ok(0));
+    // 4 before 5, and every word counts.
+    let far = [&sent[..], &[257]].concat();
+    assert_eq!(normal_form(&far, &mut []), Err(Refusal::Word));
+    let mut again = vec![0; normal.len()];
+    assert_eq!(normal_form(&normal, &mut again), Ok(normal.len()));
+    assert_eq!(again, normal);
+}
+
+pub(super) fn the_writer() {
+    let message = |letter, address, identifier, kind| Message { letter, address, identifier, kind };
+    let set = |number, decimals| Kind::Set(Data { number, decimals });
+    for (message, spelled) in [
+        (message(b'L', 7, b'?', Kind::Status), "L7??*"),
+        (message(b'R', 70, b'M', Kind::Query), "R70M?*"),
+        (message(b'L', 10, b'#', Kind::Up), "L10#+*"),
+        (message(b'L', 9, b'-', Kind::Down), "L9--*"),
+        (message(b'L', 99, b'm', set(-9999, 3)), "L99m#99998*"),
+        (message(b'L', 1, b'm', set(0, 2)), "L1m#00002*"),
+        (message(b'L', 1, b'I', Kind::Store), "L1II*"),
+    ] {
+        for room in 0..14 {
+            let mut out = vec![0xEE; room];
+            let got = write(&message, &mut out);
+            if room < spelled.len() {
+                assert_eq!(got, Err(Refusal::Room));
+            } else {
+                assert_eq!(got, Ok(spelled.len()));
+                assert_eq!(text(&out[..spelled.len()]), spelled);
+            }
+            assert!(out[got.unwrap_or(0)..].iter().all(|&byte| byte == 0xEE));
+        }
+        let heard = heard(&words(spelled));
+        assert_eq!(heard, [(spelled.len() - 1, message)]);
+    }
+    let call = |letter, address, identifier, kind, number, decimals, room: usize| {
+        calls::write(letter, address, identifier, kind, number, decimals, &mut vec![0; room])
+    };
+    // 7 before 5.
+    for room in [0, 20] {
+        for (letter, address, identifier, kind, number, decimals) in [
+            (0xCC, 7, b'm', b'?', 0, 0),
+            (b'M', 7, b'm', b'?', 0, 0),
+            (b'L', 0, b'm', b'?', 0, 0),
+            (b'L', 100, b'm', b'?', 0, 0),
+            (b'L', 263, b'm', b'?', 0, 0),
+            (b'L', 7, b'5', b'?', 0, 0),
+            (b'L', 7, b'*', b'?', 0, 0),
+            (b'L', 7, b' ', b'?', 0, 0),
+            (b'L', 7, 127, b'?', 0, 0),
+            (b'L', 7, b'?', b'+', 0, 0),
+            (b'L', 7, b'?', b'#', 0, 0),
+            (b'L', 7, b'?', b'I', 0, 0),
+            (b'L', 7, b'm', b'A', 0, 0),
+            (b'L', 7, b'm', b'#', 10_000, 0),
+            (b'L', 7, b'm', b'#', -10_000, 0),
+            (b'L', 7, b'm', b'#', i32::MIN, 0),
+            (b'L', 7, b'm', b'#', 0, 4),
+            (b'L', 7, b'm', b'#', 0, 256),
+        ] {
+            assert_eq!(call(letter, address, identifier, kind, number, decimals, room), -7);
+        }
+    }
+    // Number and decimals are looked at for Type 3 only.
+    assert_eq!(call(b'L', 7, b'm', b'?', i32::MIN, u32::MAX, 5), 5);
+    assert_eq!(call(b'L', 7, b'?', b'?', i32::MAX, 256, 5), 5);
+}
+
+pub(super) fn the_reader() {
+    let data = |number, decimals| Some(Data { number, decimals });
+    for (spelled, answer) in [
+        ("L7?A*", (b'L', 7, b'?', b'A', None)),
+        ("R70M02311A*", (b'R', 70, b'M', b'A', data(231, 1))),
+        ("L7J00156I*", (b'L', 7, b'J', b'I', data(-15, 1))),
+        ("L7Z00000N*", (b'L', 7, b'Z', b'N', data(0, 0))),
+        ("L7Z00003N*", (b'L', 7, b'Z', b'N', data(0, 3))),
+        ("L99#99998A*", (b'L', 99, b'#', b'A', data(-9999, 3))),
+    ] {
+        let (letter, address, identifier, outcome, data) = answer;
+        let answer = Answer { letter, address, identifier, outcome, data };
+        assert_eq!(read(&line(spelled)), Ok(answer), "{spelled}");
+        // Nothing before or behind, and every byte in good parity.
+        let bytes = line(spelled);
+        assert_eq!(read(&[&bytes[..], &bytes[..1]].concat()), Err(Refusal::Reply));
+        assert_eq!(read(&[&bytes[..1], &bytes[..]].concat()), Err(Refusal::Reply));
+        assert_eq!(read(&[&[0], &bytes[..]].concat()), Err(Refusal::Reply));
+        for at in 0..bytes.len() {
+            assert_eq!(read(&bytes[..at]), Err(Refusal::Reply));
+            let mut bytes = bytes.clone();
+            bytes[at] ^= 0x80;
+            assert_eq!(read(&bytes), Err(Refusal::Reply));
+        }
+    }
+    for spelled in [
+        "L07?A*",
+        "L0?A*",
+        "L00M02311A*",
+        "L07M02311A*",
+        "L007M02311A*",
+        "L100M02311A*",
+        "M7?A*",
+        "L7?N*",
+        "L7?I*",
+        "L7?02311A*",
+        "L7MA*",
+        "L7M02314A*",
+        "L7M02319A*",
+        "L7M00005A*",
+        "L7M00006N*",
+        "L7M00008I*",
+        "L7M02311B*",
+        "L7M02311A",
+        "L7M02311*",
+        "L7M023111A*",
+        "L7M0231A*",
+        "L7 02311A*",
+        "L7*02311A*",
+        "L7M#02311*",
+        "L7M?*",
+        "L?A*",
+        "L7M0231 A*",
+        "LL7?A*",
+        "",
+    ] {
+        assert_eq!(read(&line(spelled)), Err(Refusal::Reply), "{spelled}");
+        assert_eq!(calls::read(&line(spelled), &mut []), -6, "6 before 5");
+    }
+    let mut answer = [9; 9];
+    assert_eq!(calls::read(&line("L7J00156I*"), &mut answer), calls::READ);
+    assert_eq!(answer, [76, 7, 74, 73, 1, -15, 1, 9, 9]);
+    assert_eq!(calls::read(&line("L7?A*"), &mut answer), calls::READ);
+    assert_eq!(answer, [76, 7, 63, 65, 0, 0, 0, 9, 9]);
+    assert_eq!(calls::read(&line("L7?A*"), &mut [0; 6]), -5);
+}

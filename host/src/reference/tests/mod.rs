@@ -1,0 +1,93 @@
+//! The reference held to the paper: bench cases a to o, the order of the refusals, the places where
+//! a hasty reader goes wrong, and the listing byte for byte.
+//! The files beside this one hold the tests; here are their list and what they have in common.
+
+mod card;
+mod hearing;
+mod listing;
+mod message;
+mod refusals;
+mod sheet;
+
+use super::card::{run, step, Card};
+use super::hearing::{for_each_heard, Open};
+use super::message::Message;
+use super::parity::{is_good, on_line};
+
+/// Makes a test of each function named, under its own name and not that of its file.
+macro_rules! tests {
+    ($($file:ident: [$($name:ident),*],)*) => {
+        $($(#[test] fn $name() { $file::$name() })*)*
+    };
+}
+
+tests! {
+    card: [
+        bench_cases, drops_keep_the_offer_and_clear_the_room, what_takes_an_offer_away, access,
+        a_run_stops_where_the_reply_no_longer_fits, two_digit_addresses, card_rows
+    ],
+    hearing: [parity, opening_and_closing, well_formed],
+    listing: [the_line, the_listing, a_listing_across_buffers, a_read_that_fails_has_no_last_line],
+    message: [the_normal_form, the_writer, the_reader],
+    refusals: [order_of_refusals, offers, only_the_row_that_wins_bounds_a_value],
+    sheet: [sheets, the_lookup, the_cut_goes_down, the_lookup_call],
+}
+
+const BENCH: [i32; 24] = [
+    74, 2, 1, 5, -100, 100, // J
+    77, 1, 1, 1, -1999, 9999, // M
+    90, 3, 0, 1, 15, 18, // Z
+    109, 2, 1, 5, 0, 1000, // m
+];
+
+fn values() -> [i32; 128] {
+    // Places without a row may hold anything.
+    let mut values = [i32::MIN; 128];
+    values[usize::from(b'J')] = 0;
+    values[usize::from(b'M')] = 231;
+    values[usize::from(b'Z')] = 15;
+    values[usize::from(b'm')] = 20;
+    values
+}
+
+const CARD: Card = Card { letter: b'L', address: 7, open: Open::NONE, offer: None };
+
+fn line(text: &str) -> Vec<u8> {
+    text.bytes().map(on_line).collect()
+}
+
+fn words(text: &str) -> Vec<u16> {
+    line(text).into_iter().map(u16::from).collect()
+}
+
+fn text(bytes: &[u8]) -> String {
+    assert!(bytes.iter().all(|&byte| is_good(byte)), "all bytes written carry parity");
+    bytes.iter().map(|byte| char::from(byte & 0x7F)).collect()
+}
+
+/// What a card, sheets and values answer to a text, by one run and word by word.
+fn answers(card: &mut Card, values: &mut [i32; 128], sent: &[u16]) -> String {
+    let (mut other, mut others) = (*card, *values);
+    let mut out = [0; 1000];
+    let ran = run(card, &BENCH, &[], values, sent, &mut out).unwrap();
+    assert_eq!(ran.taken, sent.len());
+    let mut bytes = Vec::new();
+    for &word in sent {
+        let mut out = [0xEE; 13];
+        let count = step(&mut other, &BENCH, &[], &mut others, word, &mut out).unwrap();
+        assert!(out[count..].iter().all(|&byte| byte == 0xEE));
+        bytes.extend_from_slice(&out[..count]);
+    }
+    assert_eq!((*card, *values, &out[..ran.written]), (other, others, &bytes[..]));
+    text(&bytes)
+}
+
+fn from_afresh(sent: &str) -> String {
+    answers(&mut CARD.clone(), &mut values(), &words(sent))
+}
+
+fn heard(words: &[u16]) -> Vec<(usize, Message)> {
+    let mut messages = Vec::new();
+    for_each_heard(&mut Open::default(), words, |at, message| messages.push((at, message)));
+    messages
+}

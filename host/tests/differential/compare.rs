@@ -1,0 +1,184 @@
+//! Both sides of a case, with guards before and behind each buffer.
+
+use crate::case::{Asked, Case};
+use kavtziron_host::abi;
+use kavtziron_host::reference::calls;
+use std::fmt::Debug;
+
+/// Numbers before and behind each buffer that no call may touch.
+const GUARD: usize = 8;
+
+/// A number for each place, never 0 and seldom anything that a call writes.
+trait Pattern: Copy + PartialEq + Debug {
+    fn at(place: usize) -> Self;
+}
+impl Pattern for u8 {
+    fn at(place: usize) -> u8 {
+        (place.wrapping_mul(29) % 61) as u8 + 0x85
+    }
+}
+impl Pattern for u16 {
+    fn at(place: usize) -> u16 {
+        (place.wrapping_mul(29) % 6151) as u16 + 0x8101
+    }
+}
+impl Pattern for i32 {
+    fn at(place: usize) -> i32 {
+        -1_000_003 - place as i32
+    }
+}
+impl Pattern for u64 {
+    fn at(place: usize) -> u64 {
+        u64::MAX / 3 + place as u64
+    }
+}
+
+/// A buffer between two guards.
+#[derive(Clone, PartialEq, Debug)]
+struct Guarded<T>(Vec<T>);
+
+impl<T: Pattern> Guarded<T> {
+    fn room(length: usize) -> Guarded<T> {
+        Guarded((0..length + 2 * GUARD).map(T::at).collect())
+    }
+
+    fn of(inside: &[T]) -> Guarded<T> {
+        let mut guarded = Guarded::room(inside.len());
+        guarded.inside().copy_from_slice(inside);
+        guarded
+    }
+
+    fn inside(&mut self) -> &mut [T] {
+        let end = self.0.len() - GUARD;
+        &mut self.0[GUARD..end]
+    }
+}
+
+fn same<T: Pattern>(what: &str, archive: &Guarded<T>, reference: &Guarded<T>) -> Result<(), String> {
+    if archive == reference {
+        return Ok(());
+    }
+    let at = archive.0.iter().zip(&reference.0).position(|(a, b)| a != b).unwrap_or(0);
+    let place = at as isize - GUARD as isize;
+    Err(format!(
+        "{what}[{place}] (of {}): archive {:?}, reference {:?}",
+        archive.0.len() - 2 * GUARD,
+        archive.0[at],
+        reference.0[at]
+    ))
+}
+
+fn same_result(archive: i64, reference: i64) -> Result<i64, String> {
+    if archive == reference {
+        Ok(archive)
+    } else {
+        Err(format!("result: archive {archive}, reference {reference}"))
+    }
+}
+
+/// Both sides of one case. Gives the result that both gave.
+pub(crate) fn compare(case: &Case) -> Result<i64, String> {
+    match case {
+        Case::Step { world, word, room } => {
+            let mut cards = [Guarded::of(&world.card), Guarded::of(&world.card)];
+            let mut values = [Guarded::of(&world.values), Guarded::of(&world.values)];
+            let mut outs = [Guarded::<u8>::room(*room), Guarded::room(*room)];
+            let archive = abi::step(
+                cards[0].inside(),
+                &world.bench,
+                &world.maker,
+                values[0].inside(),
+                *word,
+                outs[0].inside(),
+            );
+            let reference = calls::step(
+                cards[1].inside(),
+                &world.bench,
+                &world.maker,
+                values[1].inside(),
+                *word,
+                outs[1].inside(),
+            );
+            let result = same_result(archive, reference)?;
+            same("card", &cards[0], &cards[1])?;
+            same("values", &values[0], &values[1])?;
+            same("out", &outs[0], &outs[1])?;
+            Ok(result)
+        }
+        Case::Run { world, words, room, counts } => {
+            let mut cards = [Guarded::of(&world.card), Guarded::of(&world.card)];
+            let mut values = [Guarded::of(&world.values), Guarded::of(&world.values)];
+            let mut outs = [Guarded::<u8>::room(*room), Guarded::room(*room)];
+            let mut both = [Guarded::<u64>::room(*counts), Guarded::room(*counts)];
+            let archive = abi::run(
+                cards[0].inside(),
+                &world.bench,
+                &world.maker,
+                values[0].inside(),
+                words,
+                outs[0].inside(),
+                both[0].inside(),
+            );
+            let reference = calls::run(
+                cards[1].inside(),
+                &world.bench,
+                &world.maker,
+                values[1].inside(),
+                words,
+                outs[1].inside(),
+                both[1].inside(),
+            );
+            let result = same_result(archive, reference)?;
+            same("counts", &both[0], &both[1])?;
+            same("card", &cards[0], &cards[1])?;
+            same("values", &values[0], &values[1])?;
+            same("out", &outs[0], &outs[1])?;
+            Ok(result)
+        }
+        Case::NormalForm { words, room } => {
+            let mut outs = [Guarded::<u16>::room(*room), Guarded::room(*room)];
+            let archive = abi::normal_form(words, outs[0].inside());
+            let reference = calls::normal_form(words, outs[1].inside());
+            let result = same_result(archive, reference)?;
+            same("out", &outs[0], &outs[1])?;
+            Ok(result)
+        }
+        Case::Write { asked, room } => {
+            let Asked { letter, address, identifier, kind, number, decimals } = *asked;
+            let mut outs = [Guarded::<u8>::room(*room), Guarded::room(*room)];
+            let archive = abi::write(letter, address, identifier, kind, number, decimals, outs[0].inside());
+            let reference =
+                calls::write(letter, address, identifier, kind, number, decimals, outs[1].inside());
+            let result = same_result(archive, reference)?;
+            same("out", &outs[0], &outs[1])?;
+            Ok(result)
+        }
+        Case::Read { bytes, room } => {
+            let mut answers = [Guarded::<i32>::room(*room), Guarded::room(*room)];
+            let archive = abi::read(bytes, answers[0].inside());
+            let reference = calls::read(bytes, answers[1].inside());
+            let result = same_result(archive, reference)?;
+            same("answer", &answers[0], &answers[1])?;
+            Ok(result)
+        }
+        Case::Line { at, asked, room } => {
+            let Asked { letter, address, identifier, kind, number, decimals } = *asked;
+            let mut outs = [Guarded::<u8>::room(*room), Guarded::room(*room)];
+            let archive =
+                abi::line(*at, letter, address, identifier, kind, number, decimals, outs[0].inside());
+            let reference =
+                calls::line(*at, letter, address, identifier, kind, number, decimals, outs[1].inside());
+            let result = same_result(archive, reference)?;
+            same("out", &outs[0], &outs[1])?;
+            Ok(result)
+        }
+        Case::Lookup { bench, maker, identifier, room } => {
+            let mut rows = [Guarded::<i32>::room(*room), Guarded::room(*room)];
+            let archive = abi::lookup(bench, maker, *identifier, rows[0].inside());
+            let reference = calls::lookup(bench, maker, *identifier, rows[1].inside());
+            let result = same_result(archive, reference)?;
+            same("row", &rows[0], &rows[1])?;
+            Ok(result)
+        }
+    }
+}

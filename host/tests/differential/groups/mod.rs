@@ -1,0 +1,112 @@
+//! The groups of cases, what they hand them to, and what several of them draw.
+
+mod lookup;
+mod normal_form;
+mod read;
+mod run;
+mod step;
+mod write;
+
+use crate::case::Case;
+use crate::compare::compare;
+use kavtziron_host::gen::{self, Mixture, Rng, World};
+use lookup::{lookup_every, lookup_random};
+use normal_form::{normal_form_long, normal_form_random, normal_form_rooms};
+use read::{read_babble, read_edits, read_every, read_random};
+use run::{every_data, every_pair, run_in_parts, run_long, run_random, run_rooms, wrong_word_behind};
+use step::{every_word, refusals, step_random, step_spoiled, step_walk};
+use write::{line_random, line_rooms, write_random, write_rooms};
+
+/// What a group hands its cases to.
+pub(crate) struct Bench {
+    pub(crate) count: u64,
+    pub(crate) traced: bool,
+}
+
+pub(crate) struct Failure {
+    pub(crate) what: String,
+    pub(crate) case: Case,
+}
+
+impl Bench {
+    fn check(&mut self, case: Case) -> Result<i64, Box<Failure>> {
+        self.count += 1;
+        if self.traced {
+            let _ = std::fs::write("target/last-case.txt", format!("{case}\n"));
+        }
+        compare(&case).map_err(|what| Box::new(Failure { what, case }))
+    }
+
+    /// The result has to be this one as well.
+    fn expect(&mut self, case: Case, result: i64) -> Result<(), Box<Failure>> {
+        let kept = case.clone();
+        let got = self.check(case)?;
+        if got == result {
+            return Ok(());
+        }
+        let what = format!("both sides gave {got}, but the case was made to give {result}");
+        Err(Box::new(Failure { what, case: kept }))
+    }
+}
+
+type Checked = Result<(), Box<Failure>>;
+
+/// A group of cases: each number makes one or more of them.
+pub(crate) struct Group {
+    pub(crate) name: &'static str,
+    pub(crate) numbers: u64,
+    /// Whether KAV_CASES makes more of it, and a second seed other cases.
+    pub(crate) random: bool,
+    pub(crate) make: fn(&mut Rng, u64, &mut Bench) -> Checked,
+}
+
+fn room_near(rng: &mut Rng, limit: usize) -> usize {
+    match rng.below(6) {
+        0 => rng.below(limit + 1),
+        1 => limit.saturating_sub(1),
+        2 => limit,
+        3 => limit + 1,
+        _ => limit + rng.below(24),
+    }
+}
+
+fn some_words(rng: &mut Rng, world: &World, length: usize) -> Vec<u16> {
+    match rng.below(6) {
+        0 => gen::babble(rng, length),
+        1 => gen::recording(rng, world, length, gen::REALISTIC),
+        2 => {
+            let mut words = gen::recording(rng, world, length, Mixture { spoiled: 0, ..gen::REALISTIC });
+            gen::edit(rng, &mut words, 0);
+            words
+        }
+        _ => gen::recording(rng, world, length, gen::ROUGH),
+    }
+}
+
+pub(crate) const GROUPS: &[Group] = &[
+    Group { name: "refusals: every set", numbers: 128 * 1_000, random: true, make: refusals },
+    Group { name: "step: random", numbers: 200_000, random: true, make: step_random },
+    Group { name: "step: one or two numbers spoiled", numbers: 200_000, random: true, make: step_spoiled },
+    Group { name: "step: recordings word by word", numbers: 8_000, random: true, make: step_walk },
+    Group { name: "step: every word", numbers: 65_536, random: false, make: every_word },
+    Group { name: "run: random", numbers: 120_000, random: true, make: run_random },
+    Group { name: "run: every room", numbers: 2_000, random: true, make: run_rooms },
+    Group { name: "run: in parts", numbers: 2_000, random: true, make: run_in_parts },
+    Group { name: "run: long", numbers: 150, random: true, make: run_long },
+    Group { name: "run: wrong word behind the stop", numbers: 5_000, random: true, make: wrong_word_behind },
+    Group { name: "run and normal form: every data", numbers: 100_000, random: false, make: every_data },
+    Group { name: "run and normal form: every pair", numbers: 1 << 14, random: false, make: every_pair },
+    Group { name: "normal form: random", numbers: 150_000, random: true, make: normal_form_random },
+    Group { name: "normal form: every room", numbers: 2_000, random: true, make: normal_form_rooms },
+    Group { name: "normal form: long", numbers: 200, random: true, make: normal_form_long },
+    Group { name: "write: random", numbers: 250_000, random: true, make: write_random },
+    Group { name: "write: every room", numbers: 6_000, random: true, make: write_rooms },
+    Group { name: "line: random", numbers: 250_000, random: true, make: line_random },
+    Group { name: "line: every room", numbers: 3_000, random: true, make: line_rooms },
+    Group { name: "read: random", numbers: 300_000, random: true, make: read_random },
+    Group { name: "read: babble", numbers: 200_000, random: true, make: read_babble },
+    Group { name: "read: every data", numbers: 100_000, random: false, make: read_every },
+    Group { name: "read: every edit, address and room", numbers: 40, random: true, make: read_edits },
+    Group { name: "lookup: random", numbers: 150_000, random: true, make: lookup_random },
+    Group { name: "lookup: every identifier and room", numbers: 500, random: true, make: lookup_every },
+];

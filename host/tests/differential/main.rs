@@ -1,0 +1,35 @@
+//! Every call of the archive beside the reference, on many inputs.
+//!
+//! Everything lent is compared whole after each call, refused or not, with guards before and behind
+//! each buffer. Each case is made from a seed, a group and a number alone; a failing one is printed
+//! with all its numbers, and that line replays it:
+//!
+//! ```text
+//! cargo test --release --test differential                        # a fixed seed and a fresh one
+//! KAV_SEED=12345 cargo test --release --test differential         # this seed alone
+//! KAV_CASES=10 ...                                                # ten times as many random cases
+//! KAV_TRACE=1 ...          # one thread; target/last-case.txt has the case before a crash
+//! KAV_REPLAY='read bytes=204,55 room=7' cargo test --release --test differential
+//! KAV_REPLAY=@file ...                                            # a line kept in a file
+//! cargo test --release --features stand-in --test differential -- --defects
+//! ```
+
+#[cfg(kav_linked)]
+mod case;
+#[cfg(kav_linked)]
+mod compare;
+#[cfg(kav_linked)]
+mod groups;
+#[cfg(kav_linked)]
+mod running;
+
+#[cfg(not(kav_linked))]
+fn main() {
+    println!("differential: no archive (../target/staticlib/libabi.a or KAV_ARCHIVE), NOTHING COMPARED");
+    println!("differential: `rt staticlib abi` makes it; feature `archive` makes its absence an error");
+}
+
+#[cfg(kav_linked)]
+fn main() -> std::process::ExitCode {
+    running::main()
+}

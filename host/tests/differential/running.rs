@@ -1,0 +1,222 @@
+//! Running the groups, with what the environment and the command line ask for, and telling of a
+//! case that failed.
+
+use crate::case::{parse, Case};
+use crate::compare::compare;
+use crate::groups::{Bench, Failure, GROUPS};
+use kavtziron_host::gen::Rng;
+use std::process::ExitCode;
+use std::sync::atomic::{AtomicBool, AtomicU64, Ordering};
+use std::sync::Mutex;
+use std::time::{Instant, SystemTime, UNIX_EPOCH};
+
+const FIXED_SEED: u64 = 0x6B61_767A_6972_6F6E;
+
+struct Found {
+    group: &'static str,
+    number: u64,
+    failure: Box<Failure>,
+}
+
+/// Runs a group over its numbers on all processors. Gives the count of cases.
+fn run_group(at: usize, seed: u64, numbers: u64, traced: bool) -> (u64, Option<Found>) {
+    const BLOCK: u64 = 64;
+    let group = &GROUPS[at];
+    let next = AtomicU64::new(0);
+    let stop = AtomicBool::new(false);
+    let count = AtomicU64::new(0);
+    let found: Mutex<Option<Found>> = Mutex::new(None);
+    let threads = if traced { 1 } else { std::thread::available_parallelism().map_or(1, |n| n.get()) };
+    std::thread::scope(|scope| {
+        for _ in 0..threads {
+            scope.spawn(|| {
+                let mut bench = Bench { count: 0, traced };
+                'blocks: while !stop.load(Ordering::Relaxed) {
+                    let from = next.fetch_add(BLOCK, Ordering::Relaxed);
+                    if from >= numbers {
+                        break;
+                    }
+                    for number in from..(from + BLOCK).min(numbers) {
+                        let mut rng = Rng::of_case(seed, at as u64, number);
+                        if let Err(failure) = (group.make)(&mut rng, number, &mut bench) {
+                            stop.store(true, Ordering::Relaxed);
+                            let mut found = found.lock().unwrap();
+                            if found.as_ref().is_none_or(|other| other.number > number) {
+                                *found = Some(Found { group: group.name, number, failure });
+                            }
+                            break 'blocks;
+                        }
+                    }
+                }
+                count.fetch_add(bench.count, Ordering::Relaxed);
+            });
+        }
+    });
+    (count.into_inner(), found.into_inner().unwrap())
+}
+
+/// A smaller case that fails too, if the words or bytes can be made fewer.
+fn smaller(mut failure: Failure) -> Failure {
+    fn without<T: Clone>(all: &[T], from: usize, length: usize) -> Vec<T> {
+        [&all[..from], &all[from + length..]].concat()
+    }
+    let try_case = |case: Case| compare(&case).err().map(|what| Failure { what, case });
+    let mut length = match &failure.case {
+        Case::Run { words, .. } | Case::NormalForm { words, .. } => words.len(),
+        _ => 0,
+    };
+    while length > 0 {
+        let mut from = 0;
+        loop {
+            let next = match &failure.case {
+                Case::Run { world, words, room, counts } if from + length <= words.len() => Case::Run {
+                    world: world.clone(),
+                    words: without(words, from, length),
+                    room: *room,
+                    counts: *counts,
+                },
+                Case::NormalForm { words, room } if from + length <= words.len() => {
+                    Case::NormalForm { words: without(words, from, length), room: *room }
+                }
+                _ => break,
+            };
+            match try_case(next) {
+                Some(small) => failure = small,
+                None => from += length,
+            }
+        }
+        length /= 2;
+    }
+    failure
+}
+
+fn report(seed: u64, found: Found) {
+    let Found { group, number, failure } = found;
+    println!("FAILED  {group}, number {number}, seed {seed}");
+    println!("  {}", failure.what);
+    let small = smaller(Failure { what: failure.what.clone(), case: failure.case.clone() });
+    let whole = failure.case.to_string();
+    let _ = std::fs::create_dir_all("target");
+    let _ = std::fs::write("target/failing-case.txt", format!("{}\n", small.case));
+    if small.case != failure.case {
+        println!("  made smaller: {}", small.what);
+    }
+    println!("  replay: KAV_REPLAY='{}'", small.case);
+    println!("  or: KAV_REPLAY=@target/failing-case.txt (found at {} characters)", whole.len());
+}
+
+fn number_of(name: &str) -> Option<u64> {
+    let text = std::env::var(name).ok()?;
+    Some(match text.strip_prefix("0x") {
+        Some(digits) => u64::from_str_radix(digits, 16).expect("a number"),
+        None => text.parse().expect("a number"),
+    })
+}
+
+fn replay(text: &str) -> ExitCode {
+    let text = match text.strip_prefix('@') {
+        Some(path) => std::fs::read_to_string(path).expect("the case's file"),
+        None => text.to_string(),
+    };
+    let case = parse(&text);
+    assert_eq!(parse(&case.to_string()), case);
+    match compare(&case) {
+        Ok(result) => {
+            println!("both sides agree: {result}");
+            ExitCode::SUCCESS
+        }
+        Err(what) => {
+            println!("they differ: {what}");
+            ExitCode::FAILURE
+        }
+    }
+}
+
+/// A part of all groups with one seed. Gives the count, or what was found.
+fn all(seed: u64, times: u64, part: u64, fixed: bool, traced: bool) -> Result<u64, (u64, Found)> {
+    let mut total = 0;
+    for (at, group) in GROUPS.iter().enumerate() {
+        if !fixed && !group.random {
+            continue;
+        }
+        let start = Instant::now();
+        let numbers = if group.random { group.numbers * times } else { group.numbers }.div_ceil(part);
+        let (count, found) = run_group(at, seed, numbers, traced);
+        total += count;
+        if let Some(found) = found {
+            return Err((total, found));
+        }
+        if part == 1 {
+            println!("  {:38} {count:>9} cases {:>7.2} s", group.name, start.elapsed().as_secs_f64());
+        }
+    }
+    Ok(total)
+}
+
+pub(crate) fn main() -> ExitCode {
+    if let Ok(text) = std::env::var("KAV_REPLAY") {
+        return replay(&text);
+    }
+    if std::env::args().any(|arg| arg == "--list") {
+        return ExitCode::SUCCESS;
+    }
+    if std::env::args().any(|arg| arg == "--defects") {
+        return defects();
+    }
+    let traced = std::env::var_os("KAV_TRACE").is_some();
+    let times = number_of("KAV_CASES").unwrap_or(1);
+    let fresh = || SystemTime::now().duration_since(UNIX_EPOCH).map_or(1, |time| time.as_nanos() as u64);
+    let seeds = number_of("KAV_SEED").map_or_else(|| vec![FIXED_SEED, fresh()], |seed| vec![seed]);
+    let start = Instant::now();
+    let mut total = 0;
+    for (turn, &seed) in seeds.iter().enumerate() {
+        println!("seed {seed} (KAV_SEED={seed} repeats it)");
+        match all(seed, times, 1, turn == 0, traced) {
+            Ok(count) => total += count,
+            Err((_, found)) => {
+                report(seed, found);
+                return ExitCode::FAILURE;
+            }
+        }
+    }
+    println!("differential: {total} cases agree, {:.1} s", start.elapsed().as_secs_f64());
+    ExitCode::SUCCESS
+}
+
+#[cfg(not(feature = "stand-in"))]
+fn defects() -> ExitCode {
+    println!("defects are seeded in the stand-in: --features stand-in");
+    ExitCode::FAILURE
+}
+
+/// Seeds each defect in the stand-in and sees whether the tests notice.
+#[cfg(feature = "stand-in")]
+fn defects() -> ExitCode {
+    use kavtziron_host::standin::{seed_defect, DEFECTS};
+    let mut missed = 0;
+    for defect in DEFECTS {
+        seed_defect(Some(defect));
+        let start = Instant::now();
+        // A tenth is enough for all but the rarest.
+        let result = all(FIXED_SEED, 1, 100, true, false).and_then(|_| all(FIXED_SEED, 1, 10, true, false));
+        match result {
+            Ok(count) => {
+                missed += 1;
+                println!("MISSED  {defect} ({count} cases)");
+            }
+            Err((count, found)) => println!(
+                "caught  {defect}: {} after {count} cases, {:.2} s: {}",
+                found.group,
+                start.elapsed().as_secs_f64(),
+                found.failure.what
+            ),
+        }
+    }
+    seed_defect(None);
+    println!("{} of {} defects caught", DEFECTS.len() - missed, DEFECTS.len());
+    if missed == 0 {
+        ExitCode::SUCCESS
+    } else {
+        ExitCode::FAILURE
+    }
+}
