@@ -3,7 +3,7 @@
 //! with no archive, through the very same declarations.
 //!
 //! It carries the seeded defects: with [`seed_defect`] it goes wrong in one named way, and the
-//! differential tests have to notice (`cargo test --release --features stand-in -- --defects`).
+//! differential tests have to notice (`cargo test --release --features stand-in --test differential -- --defects`).
 //! Never linked together with the archive.
 
 pub mod calls;

@@ -5,7 +5,8 @@ use crate::reference::calls::{card_of, row_of};
 use crate::reference::card::{run, Card, Offer, Ran};
 use crate::reference::Refusal;
 
-pub(super) fn bench_cases() {
+#[test]
+fn bench_cases() {
     for (case, sent, answer) in [
         ('a', "L7??*", "L7?A*"),
         ('b', "L07M?*", "L7M02311A*"),
@@ -32,7 +33,8 @@ pub(super) fn bench_cases() {
     assert_eq!(answers(&mut CARD.clone(), &mut full, &words("L7m+*")), "L7m10001N*", "case n");
 }
 
-pub(super) fn drops_keep_the_offer_and_clear_the_room() {
+#[test]
+fn drops_keep_the_offer_and_clear_the_room() {
     let mut card = CARD;
     let mut values = values();
     answers(&mut card, &mut values, &words("L7m#00301*"));
@@ -48,7 +50,8 @@ pub(super) fn drops_keep_the_offer_and_clear_the_room() {
     assert_eq!(values[usize::from(b'm')], 30);
 }
 
-pub(super) fn what_takes_an_offer_away() {
+#[test]
+fn what_takes_an_offer_away() {
     for between in ["L7??*", "L7m?*", "L7m+*", "L7M+*", "L7m#00000*", "L7JI*", "L8mI*", "R7mI*", "R7??*"] {
         let sent = format!("L7m#00301*{between}L7mI*");
         assert!(!from_afresh(&sent).ends_with("L7m00301A*"), "{between}");
@@ -59,7 +62,8 @@ pub(super) fn what_takes_an_offer_away() {
     }
 }
 
-pub(super) fn access() {
+#[test]
+fn access() {
     // Read only, write only and no row, with a value that can be read or not.
     for (sent, answer) in [
         ("L7M?*", "L7M02311A*"),
@@ -84,7 +88,8 @@ pub(super) fn access() {
     }
 }
 
-pub(super) fn a_run_stops_where_the_reply_no_longer_fits() {
+#[test]
+fn a_run_stops_where_the_reply_no_longer_fits() {
     let sent = words("xL7m+*L7??*L8??*");
     for room in 0..30 {
         let mut card = CARD;
@@ -113,7 +118,8 @@ pub(super) fn a_run_stops_where_the_reply_no_longer_fits() {
     assert_eq!(run(&mut CARD.clone(), &BENCH, &[], &mut values(), &far, &mut []), Err(Refusal::Word));
 }
 
-pub(super) fn two_digit_addresses() {
+#[test]
+fn two_digit_addresses() {
     let mut card = Card { address: 70, ..CARD };
     let mut out = [0xEE; 12];
     let ran = run(&mut card, &BENCH, &[], &mut values(), &words("L70m?*"), &mut out).unwrap();
@@ -121,7 +127,8 @@ pub(super) fn two_digit_addresses() {
     assert_eq!(out[11], 0xEE);
 }
 
-pub(super) fn card_rows() {
+#[test]
+fn card_rows() {
     let mut card = Card { offer: Some(Offer { identifier: b'm', value: -5 }), ..CARD };
     card.open.to_close(&words("R7m#00231"));
     let row = row_of(&card);

@@ -5,7 +5,8 @@ use crate::reference::hearing::Open;
 use crate::reference::message::{parse, Data, Kind};
 use crate::reference::parity::{is_good, on_line};
 
-pub(super) fn parity() {
+#[test]
+fn parity() {
     assert_eq!((on_line(b'L'), on_line(b'*'), on_line(b'?')), (0xCC, 0xAA, 0x3F));
     for byte in 0..=255u8 {
         let ones = (0..8).filter(|bit| byte >> bit & 1 == 1).count();
@@ -18,7 +19,8 @@ fn heard_at(text: &str) -> Vec<usize> {
     heard(&words(text)).into_iter().map(|(at, _)| at).collect()
 }
 
-pub(super) fn opening_and_closing() {
+#[test]
+fn opening_and_closing() {
     // The same seven bits in bad parity open nothing, and drop inside; a bad `*` doesn't close.
     let mut sent = words("L7??*");
     sent[0] = 0x4C;
@@ -51,7 +53,8 @@ pub(super) fn opening_and_closing() {
     assert_eq!(heard_at("***L7??**"), [7]);
 }
 
-pub(super) fn well_formed() {
+#[test]
+fn well_formed() {
     let kind = |text: &str| parse(text.as_bytes()).map(|message| message.kind);
     let address = |text: &str| parse(text.as_bytes()).map(|message| message.address);
     for (text, number) in [("L7M?", 7), ("L07M?", 7), ("L70M?", 70), ("L99M?", 99), ("R10M?", 10)] {

@@ -4,7 +4,8 @@ use super::words;
 use crate::reference::message::parse;
 use crate::reference::{calls, listing, Refusal};
 
-pub(super) fn the_line() {
+#[test]
+fn the_line() {
     let message = |text: &str| parse(text.as_bytes()).unwrap();
     for (at, heard, line) in [
         (6, "L07M?", "6 L7 M ? -\n"),
@@ -56,7 +57,8 @@ fn bytes_of(words: &[u16]) -> Vec<u8> {
     words.iter().flat_map(|word| word.to_le_bytes()).collect()
 }
 
-pub(super) fn the_listing() {
+#[test]
+fn the_listing() {
     let sent = words("xL07M?*L7m#00231*");
     let whole = "AT CARD ID KIND DATA\n6 L7 M ? -\n16 L7 m # 00231\nEND 2\n";
     assert_eq!(listed(&bytes_of(&sent)), whole);
@@ -72,7 +74,8 @@ pub(super) fn the_listing() {
     assert_eq!(listed(&bytes_of(&[256])), "AT CARD ID KIND DATA\nEND 0\n");
 }
 
-pub(super) fn a_listing_across_buffers() {
+#[test]
+fn a_listing_across_buffers() {
     for before in listing::BUFFER - 8..listing::BUFFER + 3 {
         let sent = [vec![256; before], words("L7M?*")].concat();
         let line = format!("AT CARD ID KIND DATA\n{} L7 M ? -\n", before + 4);
@@ -84,7 +87,8 @@ pub(super) fn a_listing_across_buffers() {
     assert_eq!(listed(&full), "AT CARD ID KIND DATA\nEND 0\n");
 }
 
-pub(super) fn a_read_that_fails_has_no_last_line() {
+#[test]
+fn a_read_that_fails_has_no_last_line() {
     struct Fails(bool);
     impl std::io::Read for Fails {
         fn read(&mut self, buffer: &mut [u8]) -> std::io::Result<usize> {

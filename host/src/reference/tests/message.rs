@@ -7,7 +7,8 @@ use crate::reference::normal::normal_form;
 use crate::reference::reply::{read, Answer};
 use crate::reference::Refusal;
 
-pub(super) fn the_normal_form() {
+#[test]
+fn the_normal_form() {
     let sent = [&[256, 0x4C][..], &words("zL07M?*R70m#00006*L7mI*L0??*L123456789abL7?")].concat();
     let normal = words("L7M?*R70m#00001*L7mI*");
     for room in 0..sent.len() + 3 {
@@ -31,7 +32,8 @@ pub(super) fn the_normal_form() {
     assert_eq!(again, normal);
 }
 
-pub(super) fn the_writer() {
+#[test]
+fn the_writer() {
     let message = |letter, address, identifier, kind| Message { letter, address, identifier, kind };
     let set = |number, decimals| Kind::Set(Data { number, decimals });
     for (message, spelled) in [
@@ -90,7 +92,8 @@ pub(super) fn the_writer() {
     assert_eq!(call(b'L', 7, b'?', b'?', i32::MAX, 256, 5), 5);
 }
 
-pub(super) fn the_reader() {
+#[test]
+fn the_reader() {
     let data = |number, decimals| Some(Data { number, decimals });
     for (spelled, answer) in [
         ("L7?A*", (b'L', 7, b'?', b'A', None)),

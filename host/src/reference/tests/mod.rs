@@ -1,6 +1,6 @@
 //! The reference held to the paper: bench cases a to o, the order of the refusals, the places where
 //! a hasty reader goes wrong, and the listing byte for byte.
-//! The files beside this one hold the tests; here are their list and what they have in common.
+//! The files beside this one hold the tests; here is what they have in common.
 
 mod card;
 mod hearing;
@@ -13,25 +13,6 @@ use super::card::{run, step, Card};
 use super::hearing::{for_each_heard, Open};
 use super::message::Message;
 use super::parity::{is_good, on_line};
-
-/// Makes a test of each function named, under its own name and not that of its file.
-macro_rules! tests {
-    ($($file:ident: [$($name:ident),*],)*) => {
-        $($(#[test] fn $name() { $file::$name() })*)*
-    };
-}
-
-tests! {
-    card: [
-        bench_cases, drops_keep_the_offer_and_clear_the_room, what_takes_an_offer_away, access,
-        a_run_stops_where_the_reply_no_longer_fits, two_digit_addresses, card_rows
-    ],
-    hearing: [parity, opening_and_closing, well_formed],
-    listing: [the_line, the_listing, a_listing_across_buffers, a_read_that_fails_has_no_last_line],
-    message: [the_normal_form, the_writer, the_reader],
-    refusals: [order_of_refusals, offers, only_the_row_that_wins_bounds_a_value],
-    sheet: [sheets, the_lookup, the_cut_goes_down, the_lookup_call],
-}
 
 const BENCH: [i32; 24] = [
     74, 2, 1, 5, -100, 100, // J

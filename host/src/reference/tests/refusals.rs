@@ -64,7 +64,8 @@ fn wrong_offers() -> Vec<Offer> {
 }
 
 /// Every refusal, every two and every more of them at once, for the single word and the run.
-pub(super) fn order_of_refusals() {
+#[test]
+fn order_of_refusals() {
     let sound = [row_of(&CARD).to_vec(), {
         let mut open = Open::NONE;
         open.to_close(&words("L7m#00231"));
@@ -149,7 +150,8 @@ pub(super) fn order_of_refusals() {
     }
 }
 
-pub(super) fn offers() {
+#[test]
+fn offers() {
     for offer in wrong_offers() {
         let mut card = Card { offer: Some(offer), ..CARD };
         let got = run(&mut card, &BENCH, &[], &mut values(), &[], &mut []);
@@ -169,7 +171,8 @@ pub(super) fn offers() {
     }
 }
 
-pub(super) fn only_the_row_that_wins_bounds_a_value() {
+#[test]
+fn only_the_row_that_wins_bounds_a_value() {
     let bench = [109, 2, 0, 1, 0, 9];
     let maker = [109, 2, 0, 1, 100, 200];
     let mut held = [i32::MAX; 128];

@@ -4,7 +4,8 @@ use super::BENCH;
 use crate::reference::calls;
 use crate::reference::sheet::{lookup, sound_rows, Row};
 
-pub(super) fn sheets() {
+#[test]
+fn sheets() {
     let row = [74, 2, 1, 5, -100, 100];
     let with = |place: usize, number: i32| {
         let mut row = row;
@@ -67,7 +68,8 @@ pub(super) fn sheets() {
     assert!(sound_rows(&sheet(65)).is_none());
 }
 
-pub(super) fn the_lookup() {
+#[test]
+fn the_lookup() {
     let maker = [65, 1, 0, 1, 0, 9, 109, 1, 0, 1, 0, 9];
     let part = lookup(&BENCH, &maker, b'm');
     assert_eq!(part.as_ptr(), BENCH[18..].as_ptr(), "the bench sheet's, and the part itself");
@@ -80,7 +82,8 @@ pub(super) fn the_lookup() {
     assert!(lookup(&BENCH[1..], &maker, b'A').is_empty());
 }
 
-pub(super) fn the_cut_goes_down() {
+#[test]
+fn the_cut_goes_down() {
     let row = Row { access: 2, decimals: 0, step: 7, least: -9996, greatest: 9996 };
     for number in -9996..=9996 {
         let cut = row.cut(number);
@@ -88,7 +91,8 @@ pub(super) fn the_cut_goes_down() {
     }
 }
 
-pub(super) fn the_lookup_call() {
+#[test]
+fn the_lookup_call() {
     for room in 0..9 {
         let mut row = vec![-7; room];
         let got = calls::lookup(&BENCH, &[], b'Z', &mut row);
