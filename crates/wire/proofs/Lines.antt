@@ -12,9 +12,10 @@ use lib.ListN.{length, getD, take, drop, set, replicate, length-append, length-s
 use lib.Seq.{drop-cons, set-at, append-snoc, take-append-seam, take-length, paste, paste-zero, paste-suc}
 use Rattle.refusal.specs.Refusal.{gave, refused}
 use Rattle.refusal.specs.Call.{Call, laid, writes, refuses}
+use Rattle.refusal.specs.declared.Refusal.the-variants.{RoomTooShort}
 use Rattle.refusal.proofs.Calls.{laid-length}
 use Rattle.wire.specs.Word.{withParity, travelling}
-use Rattle.wire.specs.Line.{longest, empty, put, puts, lineOf, bytesOf, fitsAt, placed}
+use Rattle.wire.specs.Line.{longest, empty, put, puts, lineOf, bytesOf, fitsAt, placed, placeCall}
 use Rattle.wire.specs.declared.Line.{Line}
 use Rattle.wire.proofs.Words.{travelling-append, travelling-length}
 
@@ -142,6 +143,15 @@ wrote xs out e = rw (sym (fits-front xs out) ∙ e, e, placed-front xs out)
 pub wrote-nothing : (xs out : List ℕ) → fitsAt xs 0 out ≡ false → writes xs out ≡ record { outcome = refused 5; buffer = cond (fitsAt xs 0 out) (placed xs 0 out) out }
 unfolding writes
 wrote-nothing xs out e = rw (sym (fits-front xs out) ∙ e, e)
+
+-- the same from any place on
+pub placed-call : (xs : List ℕ) (at : ℕ) (out : List ℕ) → fitsAt xs at out ≡ true → placeCall xs at out ≡ record { outcome = gave (length xs); buffer = placed xs at out }
+unfolding placeCall
+placed-call xs at out e = rw e
+
+pub unplaced-call : (xs : List ℕ) (at : ℕ) (out : List ℕ) → fitsAt xs at out ≡ false → placeCall xs at out ≡ refuses RoomTooShort out
+unfolding placeCall
+unplaced-call xs at out e = rw e
 
 -- the first so many, counted by themselves
 pub take-counted : (n : ℕ) (xs : List ℕ) → take (length (take n xs)) xs ≡ take n xs

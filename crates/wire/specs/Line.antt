@@ -4,7 +4,9 @@ use mathlib.Core.List.{List, [], _∷_, _++_}
 use Prim.Native.Nat.{ℕ, _+_}
 use lib.Dec.{ltb, leb}
 use lib.ListN.{length, take, drop, set, replicate}
-use Rattle.refusal.specs.Call.{laid}
+use Rattle.refusal.specs.Refusal.{gave}
+use Rattle.refusal.specs.Call.{Call, refuses, laid}
+use Rattle.refusal.specs.declared.Refusal.the-variants.{RoomTooShort}
 use Rattle.wire.specs.Word.{withParity, travelling}
 use Rattle.wire.specs.declared.Line.{Line}
 
@@ -44,3 +46,10 @@ fitsAt xs at out = leb (at + length xs) (length out)
 -- the buffer with xs in it from a place on
 unfoldable pub placed : List ℕ → ℕ → List ℕ → List ℕ
 placed xs at out = (take at out ++ xs) ++ drop (at + length xs) out
+
+-- all of xs from a place on; number 5 exactly when it does not fit
+unfoldable pub placeCall : List ℕ → ℕ → List ℕ → Call
+placeCall xs at out =
+    cond (fitsAt xs at out)
+    (record { outcome = gave (length xs); buffer = placed xs at out })
+    (refuses RoomTooShort out)

@@ -41,6 +41,25 @@ pub fn with_parity(character: u8) -> u8
     low + 128 * (odd as u8)
 }
 
+// The same, with the ten digits by a table.
+pub fn digit_with_parity(character: u8) -> u8
+    ensures { λ r. ⌜ r ≡ withParity character ⌝ }
+{
+    match character {
+        48 => 48,
+        49 => 177,
+        50 => 178,
+        51 => 51,
+        52 => 180,
+        53 => 53,
+        54 => 54,
+        55 => 183,
+        56 => 184,
+        57 => 57,
+        _ => with_parity(character),
+    }
+}
+
 // The character that a word carries: none for a silence and for a byte in bad parity.
 pub fn receive(word: u16) -> Received
     ensures { λ r. ⌜ r ≡ received word ⌝ }
