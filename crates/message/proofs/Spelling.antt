@@ -2,13 +2,16 @@
 -- Assumes nothing.
 use mathlib.Core.Path.{_≡_, refl, sym, ap, _∙_}
 use mathlib.Core.Bool.{true, false}
+use mathlib.Core.Logic.{inl, inr}
 use mathlib.Core.List.{List, [], _∷_, _++_}
 use Prim.Native.Nat.{ℕ, _+_, _/_, _%_, _<_, _≤_}
 use native.Mathlib.Omega.{arith}
-use borrow.Author.Tests.{leb-true, lt-ltb}
+use borrow.Author.Tests.{leb-true, le-leb, lt-leb, lt-ltb}
+use denote.Enum.Declared.{tagOf}
 use lib.Dec.{leb, lit<, lit≤}
 use lib.IntN.{ℤ}
-use lib.ListN.{length, set, length-append}
+use lib.ListN.{length, getD, set, length-append}
+use types.Run.{OneOf}
 use Rattle.refusal.proofs.Logic.{choice}
 use Rattle.refusal.specs.Call.{writes, refuses}
 use Rattle.refusal.specs.declared.Refusal.the-variants.{NotMessage}
@@ -23,6 +26,7 @@ use Rattle.message.specs.declared.Body.the-variants.{Status, Query, Up, 
 use Rattle.message.specs.declared.Message.{Message}
 use Rattle.message.specs.Message.{star, isAddress, isMessage}
 use Rattle.message.specs.Spell.{spellAddress, spellBody, spellOpen, spell, writeCall}
+use Rattle.message.proofs.Body.{the-type}
 use Rattle.message.proofs.Messages.{Parts, Plain, plain-append, plain-letter, plain-digit, plain-identifier, address-most}
 
 -- ---- its characters
@@ -110,6 +114,39 @@ open-length m = omega (arith, length-append (spellAddress (m .address)) (m .iden
 pub spell-length : (m : Message) → length (spell m) ≤ 11
 unfolding spell
 spell-length m = omega (arith, length-append (spellOpen m) (star ∷ []), open-length m)
+
+-- ---- a message with one character behind its identifier
+
+never : OneOf (0 ∷ 1 ∷ 2 ∷ 3 ∷ 5 ∷ []) 4 → ⊥
+never (inl e) = omega arith
+never (inr (inl e)) = omega arith
+never (inr (inr (inl e))) = omega arith
+never (inr (inr (inr (inl e)))) = omega arith
+never (inr (inr (inr (inr e)))) = omega arith
+
+-- every body but `Set`, the variant with the number 4
+pub one-sign : (b : Body) → OneOf (0 ∷ 1 ∷ 2 ∷ 3 ∷ 5 ∷ []) (tagOf the-type b) → getD (spellBody b) 0 0 ∷ [] ≡ spellBody b
+unfolding spellBody
+one-sign Status k = refl
+one-sign Query k = refl
+one-sign Up k = refl
+one-sign Down k = refl
+one-sign (Set n d) k = absurd (never k)
+one-sign Store k = refl
+
+-- as it travels, with one digit of address
+pub sign-one : (l a i : ℕ) (b : Body) → getD (spellBody b) 0 0 ∷ [] ≡ spellBody b → a ≤ 9
+    → travelling (spell (record { letter = l; address = a; identifier = i; body = b }))
+    ≡ withParity l ∷ withParity (48 + a) ∷ withParity i ∷ withParity (getD (spellBody b) 0 0) ∷ withParity star ∷ []
+unfolding spell spellOpen spellAddress travelling digit
+sign-one l a i b e h = ap (λ (bs : List ℕ). travelling ((l ∷ (spellAddress a ++ (i ∷ bs))) ++ (star ∷ []))) (sym e) ∙ rw (le-leb a 9 h)
+
+-- and with two
+pub sign-two : (l a i : ℕ) (b : Body) → getD (spellBody b) 0 0 ∷ [] ≡ spellBody b → 9 < a
+    → travelling (spell (record { letter = l; address = a; identifier = i; body = b }))
+    ≡ withParity l ∷ withParity (48 + a / 10) ∷ withParity (48 + a % 10) ∷ withParity i ∷ withParity (getD (spellBody b) 0 0) ∷ withParity star ∷ []
+unfolding spell spellOpen spellAddress travelling digit
+sign-two l a i b e h = ap (λ (bs : List ℕ). travelling ((l ∷ (spellAddress a ++ (i ∷ bs))) ++ (star ∷ []))) (sym e) ∙ rw (lt-leb a 9 h)
 
 -- ---- the line of a message, put part by part: l₀ is empty, and each of the others has one part more
 

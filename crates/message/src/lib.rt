@@ -4,6 +4,7 @@ ghost use Prim.Native.Nat.{_≤_};
 ghost use lib.ListN.{length, getD};
 ghost use mathlib.Core.List.{[], _∷_, _++_};
 ghost use Rattle.refusal.specs.Refusal.{outcomeOf};
+ghost use Rattle.wire.specs.Word.{withParity};
 ghost use Rattle.wire.specs.Line.{puts, lineOf};
 ghost use Rattle.message.specs.Message.{star, isLetter, isAddress, isIdentifier, fitsBody, isMessage};
 ghost use Rattle.number.specs.Data.{spellData, readData};
@@ -277,44 +278,63 @@ pub fn put_data(line: Line, number: i32, decimals: u8) -> Line
     Line { bytes, len: end }
 }
 
-// The character behind an identifier.
-fn sign(body: Body) -> u8
-    ensures { λ r. ⌜ r ≡ getD (spellBody body) 0 0 ⌝ }
+// The character behind an identifier, as it travels.
+pub fn sign(body: Body) -> u8
+    ensures { λ r. ⌜ r ≡ withParity (getD (spellBody body) 0 0) ⌝ }
 {
     match body {
-        Body::Status => b'?',
-        Body::Query => b'?',
-        Body::Up => b'+',
-        Body::Down => b'-',
+        Body::Status => wire::with_parity(b'?'),
+        Body::Query => wire::with_parity(b'?'),
+        Body::Up => wire::with_parity(b'+'),
+        Body::Down => wire::with_parity(b'-'),
         Body::Set {
             number: _,
             decimals: _,
-        } => b'#',
-        Body::Store => b'I',
+        } => wire::with_parity(b'#'),
+        Body::Store => wire::with_parity(b'I'),
     }
 }
 
-// A message with one character behind its identifier, as it travels.
-fn line_of_sign(letter: u8, address: u8, identifier: u8, c: u8) -> Line
-    ensures { λ r. ⌜ r ≡ lineOf ((letter ∷ (spellAddress address ++ (identifier ∷ c ∷ []))) ++ (star ∷ [])) ⌝ }
+// A message with one digit of address and a sign, as it travels.
+pub fn with_one_digit(letter: u8, digit: u8, identifier: u8, s: u8) -> [u8; 5]
+    ensures { λ r. ⌜ r ≡ withParity letter ∷ withParity digit ∷ withParity identifier ∷ s ∷ withParity star ∷ [] ⌝ }
 {
     let l = wire::with_parity(letter);
+    let d = wire::with_parity(digit);
     let i = wire::with_parity(identifier);
-    let s = wire::with_parity(c);
     let e = wire::with_parity(b'*');
+    [l, d, i, s, e]
+}
+
+// The same with two digits.
+pub fn with_two_digits(letter: u8, tens: u8, ones: u8, identifier: u8, s: u8) -> [u8; 6]
+    ensures { λ r. ⌜ r ≡ withParity letter ∷ withParity tens ∷ withParity ones ∷ withParity identifier ∷ s ∷ withParity star ∷ [] ⌝ }
+{
+    let l = wire::with_parity(letter);
+    let t = wire::digit_with_parity(tens);
+    let u = wire::digit_with_parity(ones);
+    let i = wire::with_parity(identifier);
+    let e = wire::with_parity(b'*');
+    [l, t, u, i, s, e]
+}
+
+// A message with one character behind its identifier, as it travels.
+fn line_of_sign(letter: u8, address: u8, identifier: u8, body: Body) -> Line
+    ensures { λ r. ⌜ r ≡ lineOf ((letter ∷ (spellAddress address ++ (identifier ∷ getD (spellBody body) 0 0 ∷ []))) ++ (star ∷ [])) ⌝ }
+{
+    let s = sign(body);
     if address <= 9 {
-        let d = wire::with_parity(48 + address);
-        let bytes = [l, d, i, s, e, 0, 0, 0, 0, 0, 0];
+        let a = with_one_digit(letter, 48 + address, identifier, s);
+        let bytes = [a[0], a[1], a[2], a[3], a[4], 0, 0, 0, 0, 0, 0];
         return Line { bytes, len: 5 };
     }
-    let t = wire::with_parity(48 + address / 10);
-    let u = wire::with_parity(48 + address % 10);
-    let bytes = [l, t, u, i, s, e, 0, 0, 0, 0, 0];
+    let a = with_two_digits(letter, 48 + address / 10, 48 + address % 10, identifier, s);
+    let bytes = [a[0], a[1], a[2], a[3], a[4], a[5], 0, 0, 0, 0, 0];
     Line { bytes, len: 6 }
 }
 
 // A message with data, as it travels.
-fn line_of_data(letter: u8, address: u8, identifier: u8, number: i32, decimals: u8) -> Line
+pub fn line_of_data(letter: u8, address: u8, identifier: u8, number: i32, decimals: u8) -> Line
     ensures { λ r. ⌜ r ≡ lineOf (spell (message letter address identifier (Body.Set number decimals))) ⌝ }
 {
     let front = put_address(Line::new().put(letter), address);
@@ -331,7 +351,7 @@ pub fn spell(message: Message) -> Line
     let identifier = message.identifier;
     let body = message.body;
     let Body::Set { number, decimals } = body else {
-        return line_of_sign(letter, address, identifier, sign(body));
+        return line_of_sign(letter, address, identifier, body);
     };
     line_of_data(letter, address, identifier, number, decimals)
 }

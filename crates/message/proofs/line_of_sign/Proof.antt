@@ -10,57 +10,85 @@ use borrow.Author.Needs.{needs}
 use Rattle.message.proofs.line_of_sign.Statement.{statement}
 use Rattle.message.proofs.line_of_sign.Tie as tie
 
-with-parity-requires : tie.Need-with-parity-requires
-with-parity-requires c κs = search needs
+sign-requires : tie.Need-sign-requires
+sign-requires c κs = search needs
 
-with-parity-requires-2 : tie.Need-with-parity-requires-2
-with-parity-requires-2 c κs = search needs
+add-with-one-digit : tie.Need-add-with-one-digit
+add-with-one-digit c = search needs
 
-with-parity-requires-3 : tie.Need-with-parity-requires-3
-with-parity-requires-3 c κs = search needs
+with-one-digit-requires : tie.Need-with-one-digit-requires
+with-one-digit-requires c κs = search needs
 
-with-parity-requires-4 : tie.Need-with-parity-requires-4
-with-parity-requires-4 c κs = search needs
+array-read-t12 : tie.Need-array-read-t12
+array-read-t12 c = search needs
 
-add-with-parity : tie.Need-add-with-parity
-add-with-parity c = search needs
+array-read-t17 : tie.Need-array-read-t17
+array-read-t17 c = search needs
 
-with-parity-requires-5 : tie.Need-with-parity-requires-5
-with-parity-requires-5 c κs = search needs
+array-read-t20 : tie.Need-array-read-t20
+array-read-t20 c = search needs
+
+array-read-t23 : tie.Need-array-read-t23
+array-read-t23 c = search needs
+
+array-read-t26 : tie.Need-array-read-t26
+array-read-t26 c = search needs
 
 returns : tie.Need-returns
 unfolding lineOf laid travelling spellAddress digit
-returns c = rw (le-leb _ _ (c .before .if1 .taken)) (cc)
+returns c = rw (le-leb _ _ (c .before .if1 .taken), c .with-one-digit .ensures, c .before .before .sign .ensures)
 
-add-with-parity-2 : tie.Need-add-with-parity-2
-add-with-parity-2 c = search needs
+add-with-two-digits : tie.Need-add-with-two-digits
+add-with-two-digits c = search needs
 
-with-parity-requires-6 : tie.Need-with-parity-requires-6
-with-parity-requires-6 c κs = search needs
+add-with-two-digits-2 : tie.Need-add-with-two-digits-2
+add-with-two-digits-2 c = search needs
 
-add-with-parity-3 : tie.Need-add-with-parity-3
-add-with-parity-3 c = search needs
+with-two-digits-requires : tie.Need-with-two-digits-requires
+with-two-digits-requires c κs = search needs
 
-with-parity-requires-7 : tie.Need-with-parity-requires-7
-with-parity-requires-7 c κs = search needs
+array-read-t28 : tie.Need-array-read-t28
+array-read-t28 c = search needs
+
+array-read-t31 : tie.Need-array-read-t31
+array-read-t31 c = search needs
+
+array-read-t30 : tie.Need-array-read-t30
+array-read-t30 c = search needs
+
+array-read-t29 : tie.Need-array-read-t29
+array-read-t29 c = search needs
+
+array-read-t42 : tie.Need-array-read-t42
+array-read-t42 c = search needs
+
+array-read-t45 : tie.Need-array-read-t45
+array-read-t45 c = search needs
 
 returns-2 : tie.Need-returns-2
 unfolding lineOf laid travelling spellAddress digit
-returns-2 c = rw (lt-leb _ _ (c .before .before .if1 .left)) (cc)
+returns-2 c = rw (lt-leb _ _ (c .before .if1 .left), c .with-two-digits .ensures, c .before .before .sign .ensures)
 
 pub line-of-sign-spec : {M : Type 1} → statement M
 line-of-sign-spec =
     tie.close
     (tie.spec
-    with-parity-requires
-    with-parity-requires-2
-    with-parity-requires-3
-    with-parity-requires-4
-    add-with-parity
-    with-parity-requires-5
+    sign-requires
+    add-with-one-digit
+    with-one-digit-requires
+    array-read-t12
+    array-read-t17
+    array-read-t20
+    array-read-t23
+    array-read-t26
     returns
-    add-with-parity-2
-    with-parity-requires-6
-    add-with-parity-3
-    with-parity-requires-7
+    add-with-two-digits
+    add-with-two-digits-2
+    with-two-digits-requires
+    array-read-t28
+    array-read-t31
+    array-read-t30
+    array-read-t29
+    array-read-t42
+    array-read-t45
     returns-2)

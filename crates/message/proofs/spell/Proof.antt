@@ -1,44 +1,22 @@
 -- `message::spell` meets its contract: a body that is no data is one character, and the line is by the one or the other. Assumes nothing.
-use mathlib.Core.Path.{_≡_, refl, sym, ap, _∙_}
-use mathlib.Core.Logic.{inl, inr}
+use mathlib.Core.Path.{sym, ap, _∙_}
 use mathlib.Core.List.{List, [], _∷_, _++_}
 use Prim.Native.Nat.{ℕ}
-use native.Mathlib.Omega.{arith}
-use denote.Enum.Declared.{tagOf}
 use lib.IntN.{ℤ}
-use lib.ListN.{getD}
 use mir.Syntax.{w32}
 use mir.Val.{SFits}
-use types.Run.{OneOf}
 use Rattle.wire.specs.declared.Line.{Line}
 use Rattle.wire.specs.Line.{lineOf}
 use Rattle.number.proofs.Signed.{rd-is}
 use Rattle.message.specs.declared.Body.{Body}
-use Rattle.message.specs.declared.Body.the-variants.{Status, Query, Up, Down, Set, Store}
+use Rattle.message.specs.declared.Body.the-variants.{Set}
 use Rattle.message.specs.declared.Message.{Message}
 use Rattle.message.specs.Message.{star}
 use Rattle.message.specs.Spell.{spellAddress, spellBody, spellOpen, spell}
-use Rattle.message.proofs.Body.{the-type}
+use Rattle.message.proofs.Spelling.{one-sign}
 use borrow.Author.Needs.{needs}
 use Rattle.message.proofs.spell.Statement.{statement}
 use Rattle.message.proofs.spell.Tie as tie
-
-never : OneOf (0 ∷ 1 ∷ 2 ∷ 3 ∷ 5 ∷ []) 4 → ⊥
-never (inl e) = omega arith
-never (inr (inl e)) = omega arith
-never (inr (inr (inl e))) = omega arith
-never (inr (inr (inr (inl e)))) = omega arith
-never (inr (inr (inr (inr e)))) = omega arith
-
--- every body but `Set`, the variant with the number 4
-one : (b : Body) → OneOf (0 ∷ 1 ∷ 2 ∷ 3 ∷ 5 ∷ []) (tagOf the-type b) → getD (spellBody b) 0 0 ∷ [] ≡ spellBody b
-unfolding spellBody
-one Status k = refl
-one Query k = refl
-one Up k = refl
-one Down k = refl
-one (Set n d) k = absurd (never k)
-one Store k = refl
 
 -- a message by its body
 abbrev line : Message → List ℕ → Line
@@ -47,18 +25,15 @@ line m bs = lineOf ((m .letter ∷ (spellAddress (m .address) ++ (m .identifier 
 enum-known-body : tie.Need-enum-known-body
 enum-known-body c = search needs
 
-sign-requires : tie.Need-sign-requires
-sign-requires c κs = search needs
-
 line-of-sign-requires : tie.Need-line-of-sign-requires
 line-of-sign-requires c κs = search needs
 
 returns : tie.Need-returns
 unfolding spell spellOpen
 returns c =
-    let t = c .before .before in
+    let t = c .before in
     let m = t .before .args .message in
-    c .line-of-sign .ensures ∙ ap (line m) (ap (λ (x : ℕ). x ∷ []) (c .before .sign .ensures) ∙ one (m .body) (t .match .keys2))
+    c .line-of-sign .ensures ∙ ap (line m) (one-sign (m .body) (t .match .keys2))
 
 line-of-data-requires : tie.Need-line-of-data-requires
 line-of-data-requires c κs = search needs
@@ -76,7 +51,6 @@ spell-spec =
     tie.close
     (tie.spec
     enum-known-body
-    sign-requires
     line-of-sign-requires
     returns
     line-of-data-requires
