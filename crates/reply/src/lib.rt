@@ -3,7 +3,9 @@ ghost use mathlib.Core.Path.{_≡_};
 ghost use Prim.Native.Nat.{_≤_};
 ghost use lib.ListN.{length, getD, drop};
 ghost use mathlib.Core.List.{[], _∷_, _++_};
-ghost use Rattle.wire.specs.Line.{lineOf, bytesOf};
+ghost use Rattle.refusal.specs.Refusal.{outcomeOf as writtenOf};
+ghost use Rattle.wire.specs.Word.{travelling};
+ghost use Rattle.wire.specs.Line.{lineOf, bytesOf, placeCall};
 ghost use Rattle.message.specs.Message.{star};
 ghost use Rattle.message.specs.Spell.{spellAddress};
 ghost use Rattle.reply.specs.Reply.{markOf, spellAnswer, fitsContent, isAnswer};
@@ -11,6 +13,7 @@ ghost use Rattle.number.specs.Data.{digitOf, spellData};
 ghost use Rattle.reply.specs.Read.{charactersOf, guessMark, contentOf, guessBehind, guess, same, readCall, outcomeOf};
 use number::Data;
 use refusal::Refusal;
+use refusal::Written;
 use wire::Line;
 
 // `A`, `I` and `N`.
@@ -51,11 +54,10 @@ pub fn mark_of(mark: Mark) -> u8
     }
 }
 
-// The reply of an answer with a number, from its five digits.
-fn line_of_data(letter: u8, address: u8, identifier: u8, digits: [u8; 5], mark: u8) -> Line
-    ensures { λ r. ⌜ r ≡ lineOf (letter ∷ (spellAddress address ++ (identifier ∷ getD digits 0 0 ∷ getD digits 1 0 ∷ getD digits 2 0 ∷ getD digits 3 0 ∷ getD digits 4 0 ∷ mark ∷ star ∷ []))) ⌝ }
+// What stands behind the address of a reply with a number, as it travels.
+fn behind_address(identifier: u8, digits: [u8; 5], mark: u8) -> [u8; 8]
+    ensures { λ r. ⌜ r ≡ travelling (identifier ∷ getD digits 0 0 ∷ getD digits 1 0 ∷ getD digits 2 0 ∷ getD digits 3 0 ∷ getD digits 4 0 ∷ mark ∷ star ∷ []) ⌝ }
 {
-    let l = wire::with_parity(letter);
     let i = wire::with_parity(identifier);
     let a = wire::with_parity(digits[0]);
     let b = wire::with_parity(digits[1]);
@@ -64,14 +66,23 @@ fn line_of_data(letter: u8, address: u8, identifier: u8, digits: [u8; 5], mark: 
     let k = wire::with_parity(digits[4]);
     let m = wire::with_parity(mark);
     let e = wire::with_parity(b'*');
+    [i, a, b, c, d, k, m, e]
+}
+
+// The reply of an answer with a number, from its five digits.
+fn line_of_data(letter: u8, address: u8, identifier: u8, digits: [u8; 5], mark: u8) -> Line
+    ensures { λ r. ⌜ r ≡ lineOf (letter ∷ (spellAddress address ++ (identifier ∷ getD digits 0 0 ∷ getD digits 1 0 ∷ getD digits 2 0 ∷ getD digits 3 0 ∷ getD digits 4 0 ∷ mark ∷ star ∷ []))) ⌝ }
+{
+    let l = wire::with_parity(letter);
+    let x = behind_address(identifier, digits, mark);
     if address <= 9 {
         let n = wire::with_parity(48 + address);
-        let bytes = [l, n, i, a, b, c, d, k, m, e, 0];
+        let bytes = [l, n, x[0], x[1], x[2], x[3], x[4], x[5], x[6], x[7], 0];
         return Line { bytes, len: 10 };
     }
     let t = wire::with_parity(48 + address / 10);
     let u = wire::with_parity(48 + address % 10);
-    let bytes = [l, t, u, i, a, b, c, d, k, m, e];
+    let bytes = [l, t, u, x[0], x[1], x[2], x[3], x[4], x[5], x[6], x[7]];
     Line { bytes, len: 11 }
 }
 
@@ -95,6 +106,72 @@ pub fn spell(answer: Answer) -> Line
         identifier,
         number::write_data(number, decimals),
         mark,
+    )
+}
+
+// The bytes into a buffer from a place on, and how many they are.
+fn place_all(bytes: &[u8], out: &mut [u8], at: usize) -> Written
+    ensures answers { λ r. ⌜ writtenOf r ≡ placeCall (now (bytes .entry)) at (now (out .entry)) .outcome ⌝ }
+    ensures leaves { λ r. ⌜ now (out .exit) ≡ placeCall (now (bytes .entry)) at (now (out .entry)) .buffer ⌝ }
+{
+    if wire::place(bytes, out, at) {
+        Written::Wrote(bytes.len())
+    } else {
+        Written::Refused(Refusal::RoomTooShort)
+    }
+}
+
+// The reply of an answer with a number into a buffer, from its five digits.
+fn place_data(
+    letter: u8,
+    address: u8,
+    identifier: u8,
+    digits: [u8; 5],
+    mark: u8,
+    out: &mut [u8],
+    at: usize,
+) -> Written
+    ensures answers { λ r. ⌜ writtenOf r ≡ placeCall (travelling (letter ∷ (spellAddress address ++ (identifier ∷ getD digits 0 0 ∷ getD digits 1 0 ∷ getD digits 2 0 ∷ getD digits 3 0 ∷ getD digits 4 0 ∷ mark ∷ star ∷ [])))) at (now (out .entry)) .outcome ⌝ }
+    ensures leaves { λ r. ⌜ now (out .exit) ≡ placeCall (travelling (letter ∷ (spellAddress address ++ (identifier ∷ getD digits 0 0 ∷ getD digits 1 0 ∷ getD digits 2 0 ∷ getD digits 3 0 ∷ getD digits 4 0 ∷ mark ∷ star ∷ [])))) at (now (out .entry)) .buffer ⌝ }
+{
+    let l = wire::with_parity(letter);
+    let x = behind_address(identifier, digits, mark);
+    if address <= 9 {
+        let n = wire::with_parity(48 + address);
+        let bytes = [l, n, x[0], x[1], x[2], x[3], x[4], x[5], x[6], x[7]];
+        return place_all(&bytes, out, at);
+    }
+    let t = wire::with_parity(48 + address / 10);
+    let u = wire::with_parity(48 + address % 10);
+    let bytes = [l, t, u, x[0], x[1], x[2], x[3], x[4], x[5], x[6], x[7]];
+    place_all(&bytes, out, at)
+}
+
+// The reply into a buffer from a place on, as it travels.
+pub fn place(answer: Answer, out: &mut [u8], at: usize) -> Written
+    ensures answers { λ r. ⌜ writtenOf r ≡ placeCall (travelling (spellAnswer answer)) at (now (out .entry)) .outcome ⌝ }
+    ensures leaves { λ r. ⌜ now (out .exit) ≡ placeCall (travelling (spellAnswer answer)) at (now (out .entry)) .buffer ⌝ }
+{
+    let letter = answer.letter;
+    let address = answer.address;
+    let identifier = answer.identifier;
+    let given = answer.mark;
+    let mark = mark_of(given);
+    let content = answer.content;
+    let Content::Number { number, decimals } = content else {
+        let line = spell(answer);
+        let bytes = line.bytes;
+        let n = line.count();
+        return place_all(&bytes[..n], out, at);
+    };
+    place_data(
+        letter,
+        address,
+        identifier,
+        number::write_data(number, decimals),
+        mark,
+        out,
+        at,
     )
 }
 

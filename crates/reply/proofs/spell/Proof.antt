@@ -1,38 +1,22 @@
 -- `reply::spell` meets its contract: without a number the parts are put on an empty line one after the other, and with one its five
 -- digits stand between identifier and mark. Assumes nothing.
-use mathlib.Core.Path.{_≡_, refl, sym, ap, ap₂, _∙_}
-use mathlib.Core.List.{List, [], _∷_, _++_}
-use Prim.Native.Nat.{ℕ}
+use mathlib.Core.Path.{_≡_, sym, ap, _∙_}
 use borrow.Author.Needs.{needs}
 use lib.IntN.{ℤ}
-use lib.ListN.{getD}
 use Rattle.wire.specs.declared.Line.{Line}
 use Rattle.wire.specs.Line.{puts, put, lineOf}
-use Rattle.number.specs.Data.{fiveDigits, spellData}
+use Rattle.number.specs.Data.{spellData}
 use Rattle.number.proofs.Signed.{rd-is}
-use Rattle.message.specs.Message.{star}
-use Rattle.message.specs.Spell.{spellAddress}
 use Rattle.reply.specs.declared.Content.{Content}
-use Rattle.reply.specs.declared.Content.the-variants.{Empty, Number}
-use Rattle.reply.specs.declared.Answer.{Answer}
-use Rattle.reply.specs.Reply.{markOf, spellContent, spellAnswer}
-use Rattle.reply.proofs.Spelled.{answer-line}
+use Rattle.reply.specs.declared.Content.the-variants.{Empty}
+use Rattle.reply.specs.Reply.{spellContent}
+use Rattle.reply.proofs.Spelled.{answer-line, number-spelled}
 use Rattle.reply.proofs.spell.Statement.{statement}
 use Rattle.reply.proofs.spell.Tie as tie
 
 nothing-put : (l : Line) (x : Content) → x ≡ Empty → l ≡ puts l (spellContent x)
 unfolding puts spellContent
 nothing-put l x e = sym (ap (λ (y : Content). puts l (spellContent y)) e)
-
--- the characters of an answer with a number
-abbrev withDigits : ℕ → ℕ → ℕ → List ℕ → ℕ → List ℕ
-withDigits l a i digits m =
-    l ∷ (spellAddress a ++ (i ∷ getD digits 0 0 ∷ getD digits 1 0 ∷ getD digits 2 0 ∷ getD digits 3 0 ∷ getD digits 4 0 ∷ m ∷ star ∷ []))
-
-number-spelled : (a : Answer) (n : ℤ) (d : ℕ) → a .content ≡ Number n d → withDigits (a .letter) (a .address) (a .identifier) (spellData n d) (markOf (a .mark)) ≡ spellAnswer a
-unfolding spellAnswer spellContent spellData fiveDigits
-number-spelled a n d e =
-    sym (ap (λ (x : Content). a .letter ∷ (spellAddress (a .address) ++ (a .identifier ∷ (spellContent x ++ (markOf (a .mark) ∷ star ∷ []))))) e)
 
 mark-of-requires : tie.Need-mark-of-requires
 mark-of-requires c κs = search needs
@@ -84,8 +68,7 @@ returns-2 c =
     let o = n .before .content .given in
     c .line-of-data .ensures
     ∙ ap lineOf
-    (ap₂ (withDigits (a .letter) (a .address) (a .identifier)) (w .write-data .ensures ∙ ap (λ (z : ℤ). spellData z (o .0 .1 .0)) (rd-is {z = o .0 .0} (record { sfits = n .known-told .given .0 .1 }))) (k .mark-of .ensures)
-    ∙ number-spelled a (o .0 .0) (o .0 .1 .0) (o .1))
+    (number-spelled a (o .0 .0) (o .0 .1 .0) _ _ (o .1) (w .write-data .ensures ∙ ap (λ (z : ℤ). spellData z (o .0 .1 .0)) (rd-is {z = o .0 .0} (record { sfits = n .known-told .given .0 .1 }))) (k .mark-of .ensures))
 
 pub spell-spec : {M : Type 1} → statement M
 spell-spec =
