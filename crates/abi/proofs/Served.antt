@@ -13,10 +13,9 @@ use Rattle.refusal.specs.Refusal.{refused, gave}
 use Rattle.refusal.proofs.Logic.{choice}
 use Rattle.wire.specs.Line.{longest}
 use Rattle.card.specs.declared.Card.{Card}
-use Rattle.card.specs.declared.Turn.{Turn}
 use Rattle.card.specs.declared.Verdict.{Verdict}
 use Rattle.card.specs.declared.Verdict.the-variants.{Refused, Sound}
-use Rattle.card.specs.Turn.{Played, turn, play}
+use Rattle.card.specs.Turn.{Turn, Played, turn, play}
 use Rattle.card.specs.Sound.{verdictOf}
 use Rattle.card.specs.Calls.{Step, stepBy, stepCall, Took, runBy, runCall}
 use Rattle.abi.specs.Result.{counted}

@@ -23,8 +23,7 @@ use Rattle.act.specs.declared.Offer.{Offer}
 use Rattle.act.specs.declared.Effect.{Effect}
 use Rattle.act.specs.Act.{act}
 use Rattle.card.specs.declared.Card.{Card}
-use Rattle.card.specs.declared.Turn.{Turn}
-use Rattle.card.specs.Turn.{replyOf, effectOf, turned, turn, stored, Played, stopped, after, play}
+use Rattle.card.specs.Turn.{Turn, replyOf, effectOf, turned, turn, stored, Played, stopped, after, play}
 
 -- what playing leaves, but for the open message
 pub record Left : Type 0 where

@@ -11,23 +11,52 @@ use borrow.Author.Tests.{le-leb, lt-leb, leb-true, leb-false}
 use lib.IntN.{ℤ}
 use lib.ListN.{length, getD, take, drop, length-append, take-append-drop, drop-of-length-le}
 use lib.Seq.{paste, length-paste, take-paste, drop-paste, drop-cons, drop-drop, take-length, length-take-le}
-use Rattle.refusal.specs.Refusal.{gave}
-use Rattle.refusal.specs.Call.{laid}
+use Rattle.refusal.specs.Refusal.{Outcome, gave, refused, numberOf}
+use Rattle.refusal.specs.declared.Refusal.{Refusal}
+use Rattle.refusal.specs.Call.{Call, laid}
+use Rattle.refusal.proofs.Logic.{by-test}
 use Rattle.wire.specs.declared.Line.{Line}
-use Rattle.wire.specs.Line.{empty, bytesOf, fitsAt, placed}
-use Rattle.wire.proofs.Lines.{placed-paste}
+use Rattle.wire.specs.Line.{longest, empty, bytesOf, fitsAt, placed, placeCall}
+use Rattle.wire.proofs.Lines.{placed-paste, placed-call, unplaced-call}
 use Rattle.message.specs.declared.Parsed.the-variants.{Unheard}
 use Rattle.hearing.specs.declared.Pending.{Pending}
-use Rattle.hearing.specs.declared.Reached.{Reached}
-use Rattle.hearing.specs.Hearing.{hear, toClose}
+use Rattle.hearing.specs.Hearing.{Reached, hear, toClose}
 use Rattle.hearing.proofs.Close.{reached, reached-in}
 use Rattle.card.specs.declared.Card.{Card}
-use Rattle.card.specs.declared.Turn.{Turn}
 use Rattle.card.specs.declared.Ran.{Ran}
 use Rattle.card.specs.declared.Taken.the-variants as taken
-use Rattle.card.specs.Turn.{withBoth, turn, stored, Played, stopped, after, play}
-use Rattle.card.specs.Calls.{Ends}
-use Rattle.card.proofs.Turns.{turn-unheard}
+use Rattle.card.specs.Turn.{Turn, withBoth, turn, stored, Played, stopped, after, play}
+use Rattle.card.specs.declared.Verdict.the-variants.{Sound}
+use Rattle.card.specs.Calls.{Step, stepBy, Took as Words, outcomeOf, Ends}
+use Rattle.card.proofs.Turns.{turn-unheard, turn-length}
+use Rattle.card.proofs.Steps.{step-long}
+
+-- ---- what is said, by its answer: it fits, or nothing is written
+
+module _ (xs : List ℕ) (at : ℕ) (out : List ℕ) where
+  pub gave-fits : (n : ℕ) → gave n ≡ placeCall xs at out .outcome → (fitsAt xs at out ≡ true) × (n ≡ length xs) × (placeCall xs at out .buffer ≡ placed xs at out)
+  gave-fits n e =
+      by-test (fitsAt xs at out)
+      (λ t.
+      let p = placed-call xs at out t in
+      let q : gave n ≡ gave (length xs) = e ∙ ap (λ (c : Call). c .outcome) p in
+      let k : n ≡ length xs = cc in
+      (t, k, ap (λ (c : Call). c .buffer) p))
+      (λ f.
+      let q : gave n ≡ refused 5 = e ∙ ap (λ (c : Call). c .outcome) (unplaced-call xs at out f) in
+      let z : _≡_ {A = ℕ} 0 1 = cc in
+      absurd (omega arith))
+
+  pub refused-unfit : (k : ℕ) → refused k ≡ placeCall xs at out .outcome → (fitsAt xs at out ≡ false) × (placeCall xs at out .buffer ≡ out)
+  refused-unfit k e =
+      by-test (fitsAt xs at out)
+      (λ t.
+      let q : refused k ≡ gave (length xs) = e ∙ ap (λ (c : Call). c .outcome) (placed-call xs at out t) in
+      let z : _≡_ {A = ℕ} 0 1 = cc in
+      absurd (omega arith))
+      (λ f. (f, ap (λ (c : Call). c .buffer) (unplaced-call xs at out f)))
+
+-- ---- what is played
 
 -- the words already taken, n of them, were answered with these bytes
 abbrev pub onward : List ℕ → ℕ → Played → Played
@@ -206,3 +235,45 @@ module _ (bench maker : List ℤ) (total : Played) (v₀ : List ℤ) (out₀ ws 
             ∙ ap (λ (m : List ℕ). take at out ++ m) behind
             ∙ ap (λ (m : List ℕ). m ++ drop at out₀) (sym (append-nil (take at out)))
             ∙ ap (λ (m : ℕ). (take at out ++ []) ++ drop m out₀) (sym n)
+
+-- ---- a run of one word with room for any reply
+
+count : Outcome Words → ℕ
+count (refused k) = 0
+count (gave t) = t .bytes
+
+module _ (bench maker : List ℤ) (c : Card) (v : List ℤ) (w : ℕ) (out : List ℕ) (h : longest ≤ length out) where
+  abbrev its-turn : Turn
+  its-turn = turn bench maker c v w
+
+  one-word : play bench maker c v (length out) (w ∷ []) ≡ record { card = its-turn .card; values = stored v (its-turn .store); bytes = bytesOf (its-turn .reply); taken = 1 }
+  unfolding play
+  one-word =
+      let b = bytesOf (its-turn .reply) in
+      let e : play bench maker c v (length out) (w ∷ []) ≡ after b (stopped (its-turn .card) (stored v (its-turn .store)))
+      = rw (le-leb (length b) (length out) (omega (arith, turn-length bench maker c v w))) in
+      e ∙ (λ j. record { card = its-turn .card; values = stored v (its-turn .store); bytes = append-nil b j; taken = 1 })
+
+  module _ (r : Ran) (v′ : List ℤ) (out′ : List ℕ) (e : Ends (play bench maker c v (length out) (w ∷ [])) out r v′ out′) where
+    ended : Ends (record { card = its-turn .card; values = stored v (its-turn .store); bytes = bytesOf (its-turn .reply); taken = 1 }) out r v′ out′
+    ended = subst (λ (p : Played). Ends p out r v′ out′) one-word e
+
+    -- it is the step of the word
+    pub steps : (ws n : ℕ) → r .answer ≡ taken.Took ws n
+        → (r .card ≡ stepBy Sound its-turn c v out .card) × (gave n ≡ stepBy Sound its-turn c v out .outcome) × (v′ ≡ stepBy Sound its-turn c v out .values) × (out′ ≡ stepBy Sound its-turn c v out .buffer)
+    unfolding count
+    steps ws n q =
+        let s = sym (step-long its-turn c v out h) in
+        let k : n ≡ length (bytesOf (its-turn .reply)) = ap count (sym (ap outcomeOf q) ∙ ended .answer-is) in (
+          ended .card-is ∙ ap (λ (x : Step). x .card) s,
+          ap gave k ∙ ap (λ (x : Step). x .outcome) s,
+          ended .values-are ∙ ap (λ (x : Step). x .values) s,
+          ended .buffer-is ∙ ap (λ (x : Step). x .buffer) s,
+        )
+
+    -- and never refused
+    pub never-refused : (x : Refusal) → r .answer ≡ taken.Refused x → ⊥
+    never-refused x q =
+        let g : _≡_ {A = Outcome Words} (refused (numberOf x)) (gave (record { words = 1; bytes = length (bytesOf (its-turn .reply)) })) = sym (ap outcomeOf q) ∙ ended .answer-is in
+        let z : _≡_ {A = ℕ} 0 1 = cc in
+        omega arith

@@ -17,10 +17,9 @@ use Rattle.wire.specs.Line.{longest, bytesOf}
 use Rattle.sheet.specs.Sheet.{soundSheet}
 use Rattle.sheet.specs.Values.{soundValues}
 use Rattle.card.specs.declared.Card.{Card}
-use Rattle.card.specs.declared.Turn.{Turn}
 use Rattle.card.specs.declared.Verdict.{Verdict}
 use Rattle.card.specs.declared.Verdict.the-variants.{Refused, Sound}
-use Rattle.card.specs.Turn.{turn, stored, Played, play}
+use Rattle.card.specs.Turn.{Turn, turn, stored, Played, play}
 use Rattle.card.specs.Sound.{soundCard, soundOffer, verdictOf}
 use Rattle.card.specs.Calls.{Step, stepRefused, stepTaken, stepBy, stepCall, Run, runBy, runCall}
 

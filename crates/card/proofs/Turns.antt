@@ -1,4 +1,4 @@
--- One word, by what it does to the open message: the laws that the decision's code cites. Assumes nothing.
+-- One word, by what it has closed: the laws that the code of a run cites. Assumes nothing.
 use mathlib.Core.Path.{_≡_, refl, sym, ap, _∙_, subst}
 use mathlib.Core.List.{List}
 use Prim.Native.Nat.{ℕ, _≤_}
@@ -21,20 +21,15 @@ use Rattle.reply.proofs.Spelled.{answer-length}
 use Rattle.message.specs.declared.Parsed.{Parsed}
 use Rattle.message.specs.declared.Parsed.the-variants.{Heard, Unheard}
 use Rattle.message.specs.declared.Message.{Message}
-use Rattle.message.specs.Scan.{parse}
-use Rattle.hearing.specs.declared.Pending.{Pending}
-use Rattle.hearing.specs.declared.Action.{Action}
-use Rattle.hearing.specs.declared.Action.the-variants.{Ignore, Open, Add, Close, Drop}
 use Rattle.hearing.specs.declared.Hearing.{Hearing}
-use Rattle.hearing.specs.Hearing.{none, added, openOf, actionOf, perform, hear}
+use Rattle.hearing.specs.Hearing.{none, hear}
 use Rattle.act.specs.declared.Said.{Said}
 use Rattle.act.specs.declared.Said.the-variants.{Silence, Reply}
 use Rattle.act.specs.declared.Effect.{Effect}
 use Rattle.act.specs.declared.Store.the-variants.{Keep}
 use Rattle.act.specs.Act.{respond, act}
 use Rattle.card.specs.declared.Card.{Card}
-use Rattle.card.specs.declared.Turn.{Turn}
-use Rattle.card.specs.Turn.{replyOf, effectOf, withBoth, turned, stays, turn}
+use Rattle.card.specs.Turn.{Turn, replyOf, effectOf, withBoth, turned, stays, turn}
 
 -- document 01: "No reply is longer than 11 bytes."
 pub reply-length : (s : Said) → length (bytesOf (replyOf s)) ≤ longest
@@ -96,28 +91,3 @@ module _ (bench maker : List ℤ) (c : Card) (values : List ℤ) where
   pub turn-closes : (w : ℕ) (o : Parsed) → hear (c .pending) w ≡ record { pending = none; message = o } → turn bench maker c values w ≡ turned c none (effectOf bench maker c values o)
   unfolding turn
   turn-closes w o e = ap (λ (h : Hearing). turned c (h .pending) (effectOf bench maker c values (h .message))) e
-
-  module _ (w : ℕ) where
-    did : (a : Action) → actionOf (c .pending) w ≡ a → turn bench maker c values w ≡ turned c (perform (c .pending) a .pending) (effectOf bench maker c values (perform (c .pending) a .message))
-    unfolding turn hear
-    did a e = ap (λ (x : Action). turned c (perform (c .pending) x .pending) (effectOf bench maker c values (perform (c .pending) x .message))) e
-
-    pub turn-ignore : actionOf (c .pending) w ≡ Ignore → turn bench maker c values w ≡ stays c
-    unfolding turned effectOf perform
-    turn-ignore e = did Ignore e
-
-    pub turn-open : (x : ℕ) → actionOf (c .pending) w ≡ Open x → turn bench maker c values w ≡ stays (withBoth c (added none x) (c .offer))
-    unfolding turned effectOf perform
-    turn-open x e = did (Open x) e
-
-    pub turn-add : (x : ℕ) → actionOf (c .pending) w ≡ Add x → turn bench maker c values w ≡ stays (withBoth c (added (c .pending) x) (c .offer))
-    unfolding turned effectOf perform
-    turn-add x e = did (Add x) e
-
-    pub turn-close : actionOf (c .pending) w ≡ Close → turn bench maker c values w ≡ turned c none (effectOf bench maker c values (parse (openOf (c .pending))))
-    unfolding perform
-    turn-close e = did Close e
-
-    pub turn-drop : actionOf (c .pending) w ≡ Drop → turn bench maker c values w ≡ stays (withBoth c none (c .offer))
-    unfolding turned effectOf perform
-    turn-drop e = did Drop e

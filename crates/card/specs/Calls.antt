@@ -12,13 +12,12 @@ use Rattle.refusal.specs.declared.Refusal.{Refusal}
 use Rattle.refusal.specs.declared.Refusal.the-variants.{RoomTooShort}
 use Rattle.wire.specs.Line.{longest, bytesOf}
 use Rattle.card.specs.declared.Card.{Card}
-use Rattle.card.specs.declared.Turn.{Turn}
 use Rattle.card.specs.declared.Verdict.{Verdict}
 use Rattle.card.specs.declared.Verdict.the-variants.{Refused, Sound}
 use Rattle.card.specs.declared.Ran.{Ran}
 use Rattle.card.specs.declared.Taken.{Taken}
 use Rattle.card.specs.declared.Taken.the-variants as taken
-use Rattle.card.specs.Turn.{turn, stored, Played, play}
+use Rattle.card.specs.Turn.{Turn, turn, stored, Played, play}
 use Rattle.card.specs.Sound.{verdictOf}
 
 -- ---- one word

@@ -19,10 +19,15 @@ use Rattle.act.specs.declared.Said.the-variants.{Silence, Reply}
 use Rattle.act.specs.declared.Store.{Store}
 use Rattle.act.specs.declared.Store.the-variants.{Keep, Put}
 use Rattle.act.specs.declared.Effect.{Effect}
-use Rattle.card.specs.declared.Turn.{Turn}
 use Rattle.act.specs.Act.{act}
 
 -- ---- one word
+
+-- what a word leads to: the card afterwards, the reply, and what is stored
+pub record Turn : Type 0 where
+  pub card : Card
+  pub reply : Line
+  pub store : Store
 
 -- the reply as it travels; none is silence
 abbrev pub replyOf : Said → Line

@@ -8,12 +8,10 @@ ghost use Rattle.card.specs.Sound.{soundCard, soundOffer, verdictOf};
 ghost use Rattle.card.specs.Calls.{stepBy, stepCall, runCall, outcomeOf};
 ghost use Rattle.refusal.specs.Refusal.{outcomeOf as writtenOf};
 use act::Offer;
-use act::Store;
 use hearing::Pending;
 use refusal::Refusal;
 use refusal::Written;
 use sheet::Entry;
-use wire::Line;
 
 mod answering;
 
@@ -22,13 +20,6 @@ pub struct Card {
     pub address: u8,
     pub pending: Pending,
     pub offer: Offer,
-}
-
-// What a word leads to, decided before anything is written.
-pub struct Turn {
-    pub card: Card,
-    pub reply: Line,
-    pub store: Store,
 }
 
 // Whether a call can be served.
@@ -180,7 +171,7 @@ pub fn check<'a>(
     Verdict::Sound
 }
 
-// The single word of a call that passed: number 5, or the word's reply and what it stores.
+// The single word of a call that passed: number 5, or a run of this one word. Its reply always fits.
 fn take<'a>(
     card: Card,
     bench: &'a [i32],
@@ -199,13 +190,20 @@ fn take<'a>(
         let answer = Written::Refused(Refusal::RoomTooShort);
         return Stepped { card, answer };
     }
-    let turn = answering::decide(card, bench, maker, values, word);
-    let reply = turn.reply;
-    let answer = reply.write(out);
-    let store = turn.store;
-    answering::keep(values, store);
-    let card = turn.card;
-    Stepped { card, answer }
+    let words = [word];
+    let ran = answering::take_all(card, bench, maker, values, &words, out);
+    let card = ran.card;
+    let taken = ran.answer;
+    match taken {
+        Taken::Refused(refusal) => {
+            let answer = Written::Refused(refusal);
+            Stepped { card, answer }
+        }
+        Taken::Took { words: _, bytes } => {
+            let answer = Written::Wrote(bytes);
+            Stepped { card, answer }
+        }
+    }
 }
 
 // One word: its reply, of at most LONGEST bytes, stands at the front of the buffer afterwards.

@@ -17,8 +17,7 @@ use Rattle.hearing.specs.Normal.{normal}
 use Rattle.hearing.proofs.Normal.{heard-normal, normal-normal, normal-same, normal-valid, normal-written}
 use Rattle.card.specs.declared.Card.{Card}
 use Rattle.card.specs.declared.Verdict.the-variants as verdict
-use Rattle.card.specs.declared.Turn.{Turn}
-use Rattle.card.specs.Turn.{turn, stored, Played}
+use Rattle.card.specs.Turn.{Turn, turn, stored, Played}
 use Rattle.card.specs.Calls.{Run, runBy, runCall}
 use Rattle.card.proofs.Steps.{all-sound, run-served, run-leaves}
 use Rattle.card.proofs.Plays.{Left, all, no-bytes, more-bytes, all-taken, run-all, left-alike}

@@ -14,8 +14,7 @@ use Rattle.wire.specs.Line.{longest, bytesOf}
 use Rattle.wire.proofs.Words.{word-valid}
 use Rattle.hearing.proofs.Normal.{writer-heard}
 use Rattle.card.specs.declared.Card.{Card}
-use Rattle.card.specs.declared.Turn.{Turn}
-use Rattle.card.specs.Turn.{turn, stored, stopped, after, play, Played}
+use Rattle.card.specs.Turn.{Turn, turn, stored, stopped, after, play, Played}
 use Rattle.card.specs.Calls.{Step, stepCall}
 use Rattle.card.proofs.Steps.{all-sound, step-served, step-long, step-leaves}
 use Rattle.card.proofs.Plays.{play-word}

@@ -11,8 +11,7 @@ use Rattle.sheet.specs.Sheet.{soundSheet}
 use Rattle.sheet.specs.Values.{soundValues}
 use Rattle.act.specs.declared.Said.{Said}
 use Rattle.card.specs.declared.Card.{Card}
-use Rattle.card.specs.declared.Turn.{Turn}
-use Rattle.card.specs.Turn.{effectOf, turn, stored}
+use Rattle.card.specs.Turn.{Turn, effectOf, turn, stored}
 use Rattle.card.specs.Sound.{soundCard, soundOffer}
 
 -- document 01: "A card, sheets and values are sound where numbers 1, 2 and 3 don't hold of them."

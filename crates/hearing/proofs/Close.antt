@@ -7,7 +7,7 @@ use native.Mathlib.Numerals.{add-one}
 use native.Mathlib.Omega.{arith}
 use borrow.Author.Tests.{ltb-true, ltb-false}
 use lib.Dec.{ltb}
-use lib.ListN.{length, getD, drop, drop-of-length-le}
+use lib.ListN.{length, getD, drop, drop-of-length-le, length-set}
 use lib.Seq.{drop-cons}
 use Rattle.refusal.proofs.Logic.{choice}
 use Rattle.message.specs.declared.Parsed.the-variants.{Unheard}
@@ -15,8 +15,7 @@ use Rattle.message.specs.Scan.{parse}
 use Rattle.hearing.specs.declared.Pending.{Pending}
 use Rattle.hearing.specs.declared.Action.{Action}
 use Rattle.hearing.specs.declared.Action.the-variants.{Ignore, Open, Add, Close, Drop}
-use Rattle.hearing.specs.declared.Reached.{Reached}
-use Rattle.hearing.specs.Hearing.{none, openOf, actionOf, perform, hear, closes, leftBy, toClose}
+use Rattle.hearing.specs.Hearing.{Reached, most, none, added, openOf, actionOf, perform, hear, closes, leftBy, toClose}
 
 module _ (p : Pending) (ws : List ℕ) (i : ℕ) where
   -- the next word, and what it does
@@ -73,12 +72,23 @@ is-close (Add c) e = absurd (false≢true e)
 is-close Close e = refl
 is-close Drop e = absurd (false≢true e)
 
-nil-cons : {x : ℕ} {xs : List ℕ} → [] ≡ x ∷ xs → ⊥
+hear-long : (p : Pending) (w : ℕ) → length (p .chars) ≡ most → length (hear p w .pending .chars) ≡ most
+unfolding hear perform added none
+hear-long p w e = go (actionOf p w)
+  where
+    go : (a : Action) → length (perform p a .pending .chars) ≡ most
+    go Ignore = e
+    go (Open c) = refl
+    go (Add c) = choice (λ (q : Pending). length (q .chars) ≡ most) (ltb (p .len) most) (λ t. length-set (p .chars) (p .len) c ∙ e) (λ t. refl)
+    go Close = refl
+    go Drop = refl
+
+pub nil-cons : {x : ℕ} {xs : List ℕ} → [] ≡ x ∷ xs → ⊥
 nil-cons {x} {xs} e = let n : 0 ≡ length (x ∷ xs) = ap length e in omega arith
 
 module _ (ws : List ℕ) where
   -- the first of the words from a place on
-  first : (i x : ℕ) (rest : List ℕ) → drop i ws ≡ x ∷ rest → (i < length ws) × (x ≡ getD ws i 0) × (rest ≡ drop (i + 1) ws)
+  pub first : (i x : ℕ) (rest : List ℕ) → drop i ws ≡ x ∷ rest → (i < length ws) × (x ≡ getD ws i 0) × (rest ≡ drop (i + 1) ws)
   first i x rest e = go (ltb i (length ws)) refl
     where
       go : (b : Bool) → ltb i (length ws) ≡ b → (i < length ws) × (x ≡ getD ws i 0) × (rest ≡ drop (i + 1) ws)
@@ -122,3 +132,7 @@ module _ (ws : List ℕ) where
   pub reached-hears : (p : Pending) (i : ℕ) → toClose p (drop i ws) i .at < length ws
       → hear (toClose p (drop i ws) i .pending) (getD ws (toClose p (drop i ws) i .at) 0) ≡ record { pending = none; message = parse (openOf (toClose p (drop i ws) i .pending)) }
   reached-hears p i h = close-hears _ _ (stops (drop i ws) p i refl h)
+
+  -- ten places stay ten
+  pub reached-long : (p : Pending) (i : ℕ) → length (p .chars) ≡ most → length (toClose p (drop i ws) i .pending .chars) ≡ most
+  reached-long p i e = reached (λ (q : Pending) (k : ℕ). length (q .chars) ≡ most) (λ q k l u g. hear-long q (getD ws k 0) g) p i e

@@ -1,4 +1,5 @@
 pub mod Close
+pub mod Spans
 pub mod Heard
 pub mod Sound
 pub mod Normal

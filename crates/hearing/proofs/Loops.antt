@@ -28,8 +28,7 @@ use Rattle.hearing.specs.declared.Pending.{Pending}
 use Rattle.hearing.specs.declared.Action.{Action}
 use Rattle.hearing.specs.declared.Action.the-variants.{Ignore, Open, Add, Close, Drop}
 use Rattle.hearing.specs.declared.Hearing.{Hearing}
-use Rattle.hearing.specs.declared.Reached.{Reached}
-use Rattle.hearing.specs.Hearing.{most, none, added, openOf, actionOf, perform, hear, before, heardFrom, heard, toClose}
+use Rattle.hearing.specs.Hearing.{Reached, most, none, added, openOf, actionOf, perform, hear, before, heardFrom, heard, toClose}
 use Rattle.hearing.specs.Normal.{worth, wordsOf, normal, normalCall}
 use Rattle.hearing.proofs.Close.{reached, reached-hears}
 

@@ -1,17 +1,18 @@
 // Hearing: what a word does to the open message, and the normal form of a recording.
 ghost use mathlib.Core.Path.{_≡_};
 ghost use Prim.Native.Nat.{_+_, _≤_};
-ghost use lib.ListN.{length, drop};
+ghost use lib.ListN.{length, take, drop};
 ghost use mathlib.Core.Bool.{cond};
 ghost use lib.Dec.{eqb, leb};
 ghost use Rattle.refusal.specs.Refusal.{outcomeOf};
 ghost use Rattle.refusal.specs.Call.{laid};
 ghost use Rattle.wire.specs.Word.{received};
 ghost use Rattle.wire.specs.Line.{placed};
-ghost use Rattle.hearing.specs.Hearing.{none, added, openOf, opening, continuing, actionOf, perform, hear, nextOf, charsOf, toClose};
+ghost use Rattle.hearing.specs.Hearing.{none, added, openOf, opening, continuing, actionOf, perform, hear, nextOf, charsOf, stopOf, toClose, toLetter, grown};
 ghost use Rattle.hearing.specs.Sound.{plain, zeros, soundPending};
 ghost use Rattle.hearing.specs.Normal.{worth, normal, normalCall};
 ghost use Rattle.message.specs.Scan.{parse};
+use message::Body;
 use message::Message;
 use message::Parsed;
 use refusal::Refusal;
@@ -70,11 +71,7 @@ impl Pending {
         ensures { λ r. ⌜ r ≡ parse (openOf self) ⌝ }
     {
         let chars = self.chars;
-        let len = self.len;
-        if MOST <= len {
-            return message::parse(&chars);
-        }
-        message::parse(&chars[..len])
+        closed(&chars, self.len)
     }
 
     // What a word does.
@@ -166,9 +163,9 @@ pub fn hear(pending: Pending, word: u16) -> Hearing
     }
 }
 
-// Where a hearing stands: the open message, and the place of the next word.
-pub struct Reached {
-    pub pending: Pending,
+// Where a hearing stands: the count of open characters, and the place of the next word.
+pub struct Stop {
+    pub len: usize,
     pub at: usize,
 }
 
@@ -229,23 +226,88 @@ pub fn take(chars: &mut [u8; MOST], len: usize, word: u16) -> Next
     }
 }
 
-// Takes the words from a place on, up to a `*` that closes the open message: that one is left. No message is heard on the way.
-pub fn to_close(pending: Pending, words: &[u16], from: usize) -> Reached
-    ensures { λ r. ⌜ r ≡ toClose pending (drop from (now (words .entry))) from ⌝ }
+// The place of the next letter in good parity: `L` is CC on the line, `R` is D2.
+fn to_letter(words: &[u16], from: usize) -> usize
+    ensures { λ r. ⌜ r ≡ toLetter (drop from (now (words .entry))) from ⌝ }
 {
-    let mut chars = pending.chars;
-    let mut len = pending.len;
     let mut at = from;
     while at < words.len() {
-        let next = take(&mut chars, len, words[at]);
-        if next.closes {
+        let word = words[at];
+        if (word == 204) | (word == 210) {
             break;
         }
-        len = next.len;
         at += 1;
     }
-    let pending = Pending { chars, len };
-    Reached { pending, at }
+    at
+}
+
+// Adds characters to an open message as long as there are any and places for them.
+fn add_all(chars: &mut [u8; MOST], len: usize, words: &[u16], from: usize) -> Stop
+    requires { ⌜ 1 ≤ len ⌝ }
+    ensures { λ r. ⌜ (r ≡ stopOf (grown (record { chars = now (chars .entry); len = len }) (drop from (now (words .entry))) from)) × (now (chars .exit) ≡ grown (record { chars = now (chars .entry); len = len }) (drop from (now (words .entry))) from .pending .chars) ⌝ }
+{
+    let mut len = len;
+    let mut at = from;
+    while at < words.len() {
+        let Received::Character(c) = wire::receive(words[at]) else {
+            break;
+        };
+        if c == b'*' {
+            break;
+        }
+        if MOST <= len {
+            break;
+        }
+        chars[len] = c;
+        len += 1;
+        at += 1;
+    }
+    Stop { len, at }
+}
+
+// Takes the words from a place on, up to a `*` that closes the open message: that one, AA on the line, is left. No message is heard on
+// the way.
+pub fn to_close(chars: &mut [u8; MOST], len: usize, words: &[u16], from: usize) -> Stop
+    ensures { λ r. ⌜ (r ≡ stopOf (toClose (record { chars = now (chars .entry); len = len }) (drop from (now (words .entry))) from)) × (now (chars .exit) ≡ toClose (record { chars = now (chars .entry); len = len }) (drop from (now (words .entry))) from .pending .chars) ⌝ }
+{
+    let mut len = len;
+    let mut at = from;
+    while at < words.len() {
+        if len == 0 {
+            at = to_letter(words, at);
+            if words.len() <= at {
+                return Stop { len, at };
+            }
+            *chars = [0u8; MOST];
+            chars[0] = (words[at] % 128) as u8;
+            len = 1;
+            at += 1;
+            continue;
+        }
+        let more = add_all(chars, len, words, at);
+        at = more.at;
+        len = more.len;
+        if words.len() <= at {
+            return Stop { len, at };
+        }
+        if words[at] == 170 {
+            return Stop { len, at };
+        }
+        *chars = [0u8; MOST];
+        len = 0;
+        at += 1;
+    }
+    Stop { len, at }
+}
+
+// The message that the first so many characters are.
+pub fn closed(chars: &[u8], len: usize) -> Parsed
+    ensures { λ r. ⌜ r ≡ parse (take len (now (chars .entry))) ⌝ }
+{
+    if chars.len() <= len {
+        return message::parse(chars);
+    }
+    message::parse(&chars[..len])
 }
 
 // The words that a heard message has in a normal form.
@@ -265,13 +327,13 @@ fn measure(words: &[u16], room: usize) -> bool
     let mut n: usize = 0;
     let mut i = 0;
     while i < words.len() {
-        let reached = to_close(Pending::new(), words, i);
-        let at = reached.at;
+        let mut chars = [0u8; MOST];
+        let stop = to_close(&mut chars, 0, words, i);
+        let at = stop.at;
         if words.len() <= at {
             return true;
         }
-        let pending = reached.pending;
-        let message = pending.close();
+        let message = closed(&chars, stop.len);
         let more = count_of(message);
         if room - n < more {
             return false;
@@ -300,7 +362,24 @@ fn put(message: Parsed, out: &mut [u16], at: usize) -> usize
     let Parsed::Heard(m) = message else {
         return at;
     };
-    let line = message::spell(m);
+    let letter = m.letter;
+    let address = m.address;
+    let identifier = m.identifier;
+    let body = m.body;
+    let Body::Set { number, decimals } = body else {
+        let s = message::sign(body);
+        if address <= 9 {
+            let bytes = message::with_one_digit(letter, 48 + address, identifier, s);
+            copy(&bytes, out, at);
+            return at + 5;
+        }
+        let tens = 48 + address / 10;
+        let ones = 48 + address % 10;
+        let bytes = message::with_two_digits(letter, tens, ones, identifier, s);
+        copy(&bytes, out, at);
+        return at + 6;
+    };
+    let line = message::line_of_data(letter, address, identifier, number, decimals);
     let bytes = line.bytes;
     let len = line.len;
     copy(&bytes[..len], out, at);
@@ -326,15 +405,14 @@ fn fill(words: &[u16], out: &mut [u16]) -> usize
     let mut at = 0;
     let mut i = 0;
     while i < words.len() {
-        let reached = to_close(Pending::new(), words, i);
-        let stop = reached.at;
-        if words.len() <= stop {
+        let mut chars = [0u8; MOST];
+        let stop = to_close(&mut chars, 0, words, i);
+        if words.len() <= stop.at {
             return at;
         }
-        let pending = reached.pending;
-        let message = pending.close();
+        let message = closed(&chars, stop.len);
         at = put(message, out, at);
-        i = stop + 1;
+        i = stop.at + 1;
     }
     at
 }

@@ -1,18 +1,9 @@
--- `card::take` meets its contract: eleven bytes are room for any reply, so the line is written whole. Assumes nothing.
-use mathlib.Core.Path.{_≡_, refl, sym, ap, ap₂, _∙_}
-use mathlib.Core.List.{List}
-use Prim.Native.Nat.{ℕ, _≤_}
-use native.Mathlib.Omega.{arith}
-use lib.IntN.{ℤ}
-use lib.ListN.{length}
-use Rattle.refusal.specs.Call.{Call, writes}
-use Rattle.refusal.proofs.Calls.{writes-all}
-use Rattle.wire.specs.Line.{bytesOf}
-use Rattle.card.specs.declared.Turn.{Turn}
-use Rattle.card.specs.Turn.{turn, stored}
-use Rattle.card.specs.Calls.{Step, stepBy, stepTaken}
-use Rattle.card.proofs.Turns.{turn-length}
-use Rattle.card.proofs.Steps.{step-short, step-long}
+-- `card::take` meets its contract: eleven bytes are room for any reply, so a run of the word takes it. Assumes nothing.
+use mathlib.Core.Path.{_≡_, sym, ap}
+use Rattle.card.specs.Turn.{turn}
+use Rattle.card.specs.Calls.{Step}
+use Rattle.card.proofs.Steps.{step-short}
+use Rattle.card.proofs.Runs.{steps, never-refused}
 use borrow.Author.Needs.{needs}
 use Rattle.card.proofs.take.Statement.{statement}
 use Rattle.card.proofs.take.Tie as tie
@@ -28,14 +19,17 @@ returns c =
       sym (ap (λ (s : Step). s .buffer) e),
     )
 
-decide-requires : tie.Need-decide-requires
-decide-requires c κs = search needs
+slice-aggregate-take-all : tie.Need-slice-aggregate-take-all
+slice-aggregate-take-all c = search needs
 
-write-requires : tie.Need-write-requires
-write-requires c κs = search needs
+take-all-requires : tie.Need-take-all-requires
+take-all-requires c κs = search needs
 
-keep-requires : tie.Need-keep-requires
-keep-requires c κs = search needs
+enum-known-taken : tie.Need-enum-known-taken
+enum-known-taken c = search needs
+
+enum-known-taken-2 : tie.Need-enum-known-taken-2
+enum-known-taken-2 c = search needs
 
 same-length : tie.Need-same-length
 same-length c = search needs
@@ -45,28 +39,39 @@ same-length-2 c = search needs
 
 returns-2 : tie.Need-returns-2
 returns-2 c =
-    let d = c .before .before .before .before .before .before .before .before .before in
-    let a = d .before .before .before .before .args in
-    let t = turn (a .bench .now) (a .maker .now) (a .card) (a .values .now) (a .word) in
-    let r = d .decide .result in
-    let same : length (bytesOf (r .reply)) ≡ length (bytesOf (t .reply)) = ap (λ (x : Turn). length (bytesOf (x .reply))) (d .decide .ensures) in
-    let fits : length (bytesOf (r .reply)) ≤ length (a .out .now) = omega (arith, turn-length (a .bench .now) (a .maker .now) (a .card) (a .values .now) (a .word)) in
-    let w = writes-all (bytesOf (r .reply)) (a .out .now) fits in
-    let e = ap (λ (x : Turn). stepTaken x (a .values .now) (a .out .now)) (d .decide .ensures) ∙ sym (step-long t (a .card) (a .values .now) (a .out .now) (d .before .before .if1 .left)) in (
-      ap (λ (s : Step). s .card) e,
-      c .before .before .before .before .before .before .write .ensures .0 ∙ ap (λ (x : Call). x .outcome) w ∙ ap (λ (s : Step). s .outcome) e,
-      c .before .before .keep .ensures ∙ ap (λ (s : Step). s .values) e,
-      c .before .before .before .before .before .before .write .ensures .1 ∙ ap (λ (x : Call). x .buffer) w ∙ ap (λ (s : Step). s .buffer) e,
-    )
+    let t = c .before .before .before .before .before .before .before in
+    let e = t .before .before .before .before in
+    let a = e .before .before .args in
+    absurd
+    (never-refused (a .bench .now) (a .maker .now) (a .card) (a .values .now) (a .word) (a .out .now) (e .if1 .left) (t .take-all .result) _ _ (t .take-all .ensures)
+    (c .before .taken .given .0 .0) (c .before .taken .given .1))
+
+same-length-3 : tie.Need-same-length-3
+same-length-3 c = search needs
+
+same-length-4 : tie.Need-same-length-4
+same-length-4 c = search needs
+
+returns-3 : tie.Need-returns-3
+returns-3 c =
+    let t = c .before .before .before .before .before .before .before in
+    let e = t .before .before .before .before in
+    let a = e .before .before .args in
+    steps (a .bench .now) (a .maker .now) (a .card) (a .values .now) (a .word) (a .out .now) (e .if1 .left) (t .take-all .result) _ _ (t .take-all .ensures)
+    (c .before .taken2 .given .0 .0) (c .before .taken2 .given .0 .1 .0) (c .before .taken2 .given .1)
 
 pub take-spec : {M : Type 1} → statement M
 take-spec =
     tie.close
     (tie.spec
     returns
-    decide-requires
-    write-requires
-    keep-requires
+    slice-aggregate-take-all
+    take-all-requires
+    enum-known-taken
+    enum-known-taken-2
     same-length
     same-length-2
-    returns-2)
+    returns-2
+    same-length-3
+    same-length-4
+    returns-3)

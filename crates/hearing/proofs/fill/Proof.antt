@@ -1,15 +1,14 @@
 -- `hearing::fill` meets its contract. The loop's invariant: what is written and what is still to come are the whole, and what
 -- lies behind is as it was. Assumes nothing.
-use mathlib.Core.Path.{_≡_, sym, ap, _∙_, subst}
+use mathlib.Core.Path.{_≡_, refl, sym, ap, ap₂, _∙_, subst}
 use mathlib.Core.List.{List}
 use Prim.Native.Nat.{ℕ, _+_, _-_, _<_, _≤_}
 use native.Mathlib.Omega.{arith}
-use lib.ListN.{length, drop}
+use lib.ListN.{length, take, drop}
 use Rattle.message.specs.Scan.{parse}
-use Rattle.hearing.specs.declared.Pending.{Pending}
-use Rattle.hearing.specs.declared.Reached.{Reached}
-use Rattle.hearing.specs.Hearing.{none, openOf, toClose}
-use Rattle.hearing.proofs.Close.{reached-in}
+use Rattle.hearing.specs.declared.Stop.{Stop}
+use Rattle.hearing.specs.Hearing.{none, openOf}
+use Rattle.hearing.proofs.Close.{reached-in, reached-long}
 use Rattle.hearing.proofs.Loops.{next, normal-over, normal-past, Filled, fills, filled, has-room, fill-ends}
 use Rattle.hearing.proofs.fill.Statement.{statement}
 use Rattle.hearing.proofs.fill.Tie as tie
@@ -23,14 +22,11 @@ abbrev μ-loop : tie.MeasureT-loop
 loop-holds : tie.Need-loop-holds Inv-loop μ-loop
 loop-holds c = let a = c .before .before .args in fills (a .words .now) (a .out .now)
 
-new-requires : tie.Need-new-requires Inv-loop μ-loop
-new-requires c κs = tt
-
 to-close-requires : tie.Need-to-close-requires Inv-loop μ-loop
 to-close-requires c κs = tt
 
-close-requires : tie.Need-close-requires Inv-loop μ-loop
-close-requires c κs = tt
+closed-requires : tie.Need-closed-requires Inv-loop μ-loop
+closed-requires c κs = tt
 
 -- where the words reach, as the code has it
 module _ (t : tie.After-to-close Inv-loop μ-loop) where
@@ -43,16 +39,21 @@ module _ (t : tie.After-to-close Inv-loop μ-loop) where
   abbrev out₀ : List ℕ
   out₀ = at-loop .before .before .before .args .out .now
 
-  is-next : t .to-close .result ≡ next words (at-loop .loop .i)
-  is-next = t .to-close .ensures ∙ ap (λ (p : Pending). toClose p (drop (at-loop .loop .i) words) (at-loop .loop .i)) (t .before .new .ensures)
-
   at-is : t .to-close .result .at ≡ next words (at-loop .loop .i) .at
-  at-is = ap (λ (r : Reached). r .at) is-next
+  unfolding none
+  at-is = ap (λ (s : Stop). s .at) (t .to-close .ensures .0)
+
+  ten : length (t .to-close .last .0) ≡ 10
+  unfolding none
+  ten = ap length (t .to-close .ensures .1) ∙ reached-long words none (at-loop .loop .i) refl
+
+slice-aggregate-closed : tie.Need-slice-aggregate-closed Inv-loop μ-loop
+slice-aggregate-closed c = sym (ten (c .before .before .before))
 
 -- a message is closed
-module _ (m : tie.After-close Inv-loop μ-loop) where
+module _ (m : tie.After-closed Inv-loop μ-loop) where
   abbrev closing : tie.After-to-close Inv-loop μ-loop
-  closing = m .before .before .before
+  closing = m .before .before .before .before
 
   stopped : closing .to-close .result .at < length (words closing)
   stopped = m .before .before .if1 .left
@@ -60,33 +61,34 @@ module _ (m : tie.After-close Inv-loop μ-loop) where
   before-end : next (words closing) (at-loop closing .loop .i) .at < length (words closing)
   before-end = omega (arith, at-is closing, stopped)
 
-  closed-is : m .close .result ≡ parse (openOf (next (words closing) (at-loop closing .loop .i) .pending))
-  closed-is = m .close .ensures ∙ ap (λ (r : Reached). parse (openOf (r .pending))) (is-next closing)
+  closed-is : m .closed .result ≡ parse (openOf (next (words closing) (at-loop closing .loop .i) .pending))
+  unfolding none openOf
+  closed-is = m .closed .ensures ∙ ap₂ (λ (s : Stop) (x : List ℕ). parse (take (s .len) x)) (closing .to-close .ensures .0) (closing .to-close .ensures .1)
 
 put-requires : tie.Need-put-requires Inv-loop μ-loop
 put-requires c κs =
     let m = c .before in
     let t = closing m in
     let l = at-loop t in
-    has-room (words t) (out₀ t) (l .loop .out) (l .loop .at) (l .loop .i) (l .loop .inv) (before-end m) (m .close .result) (closed-is m) (l .before .before .before .pre)
+    has-room (words t) (out₀ t) (l .loop .out) (l .loop .at) (l .loop .i) (l .loop .inv) (before-end m) (m .closed .result) (closed-is m) (l .before .before .before .pre)
 
 add-i : tie.Need-add-i Inv-loop μ-loop
-add-i c = omega (arith, stopped (c .before .before .before .before))
+add-i c = omega (arith, stopped (c .before .before .before .before .before))
 
 loop-less : tie.Need-loop-less Inv-loop μ-loop
 loop-less c =
-    let m = c .before .before .before .before in
+    let m = c .before .before .before .before .before in
     let t = closing m in
     omega (arith, stopped m, at-is t, reached-in (words t) none (at-loop t .loop .i) (at-loop t .loop .inv .i-in) .0)
 
 loop-again : tie.Need-loop-again Inv-loop μ-loop
 loop-again c =
-    let p = c .before .before in
+    let p = c .before .before .before in
     let m = p .before .before in
     let t = closing m in
     let l = at-loop t in
     subst (λ (k : ℕ). Filled (words t) (out₀ t) (p .put .last .1 .0) (p .put .result) (k + 1)) (sym (at-is t))
-    (filled (words t) (out₀ t) (l .loop .out) (l .loop .at) (l .loop .i) (l .loop .inv) (before-end m) (m .close .result) (closed-is m)
+    (filled (words t) (out₀ t) (l .loop .out) (l .loop .at) (l .loop .i) (l .loop .inv) (before-end m) (m .closed .result) (closed-is m)
     (p .put .last .1 .0) (p .put .result) (l .before .before .before .pre) (p .put .ensures .0) (p .put .ensures .1))
 
 same-length-2 : tie.Need-same-length-2 Inv-loop μ-loop
@@ -99,11 +101,11 @@ returns-2 c =
     fill-ends (a .words .now) (a .out .now) (l .loop .out) (l .loop .at) (l .loop .i) (l .loop .inv) (normal-past (a .words .now) (l .loop .i) (c .loop-test .left))
 
 same-length : tie.Need-same-length Inv-loop μ-loop
-same-length c = at-loop (c .before) .loop .inv .long
+same-length c = at-loop (c .before .before) .loop .inv .long
 
 returns : tie.Need-returns Inv-loop μ-loop
 returns c =
-    let t = c .before in
+    let t = c .before .before in
     let l = at-loop t in
     fill-ends (words t) (out₀ t) (l .loop .out) (l .loop .at) (l .loop .i) (l .loop .inv) (normal-over (words t) (l .loop .i) (omega (arith, at-is t, c .if1 .taken)))
 
@@ -114,11 +116,11 @@ fill-spec =
     Inv-loop
     μ-loop
     loop-holds
-    new-requires
     to-close-requires
     same-length
     returns
-    close-requires
+    slice-aggregate-closed
+    closed-requires
     put-requires
     add-i
     loop-less

@@ -1,17 +1,16 @@
 -- `hearing::measure` meets its contract. The loop's invariant: what is counted and what is still to come are the whole.
 -- Assumes nothing.
-use mathlib.Core.Path.{_≡_, sym, ap, _∙_, subst}
+use mathlib.Core.Path.{_≡_, refl, sym, ap, ap₂, _∙_, subst}
 use mathlib.Core.List.{List}
 use Prim.Native.Nat.{ℕ, _+_, _-_, _<_, _≤_}
 use native.Mathlib.Omega.{arith}
-use lib.ListN.{length, drop}
-use Rattle.hearing.specs.declared.Pending.{Pending}
-use Rattle.hearing.specs.declared.Reached.{Reached}
-use Rattle.hearing.specs.Hearing.{none, openOf, toClose}
+use lib.ListN.{length, take, drop}
+use Rattle.hearing.specs.declared.Stop.{Stop}
+use Rattle.hearing.specs.Hearing.{none, openOf}
 use Rattle.hearing.specs.Normal.{worth}
 use Rattle.message.specs.declared.Parsed.{Parsed}
 use Rattle.message.specs.Scan.{parse}
-use Rattle.hearing.proofs.Close.{reached-in}
+use Rattle.hearing.proofs.Close.{reached-in, reached-long}
 use Rattle.hearing.proofs.Loops.{next, normal-over, normal-past, Counted, counts, counted, too-long, count-ends}
 use Rattle.hearing.proofs.measure.Statement.{statement}
 use Rattle.hearing.proofs.measure.Tie as tie
@@ -25,14 +24,11 @@ abbrev μ-loop : tie.MeasureT-loop
 loop-holds : tie.Need-loop-holds Inv-loop μ-loop
 loop-holds c = let a = c .before .args in counts (a .words .now) (a .room)
 
-new-requires : tie.Need-new-requires Inv-loop μ-loop
-new-requires c κs = tt
-
 to-close-requires : tie.Need-to-close-requires Inv-loop μ-loop
 to-close-requires c κs = tt
 
-close-requires : tie.Need-close-requires Inv-loop μ-loop
-close-requires c κs = tt
+closed-requires : tie.Need-closed-requires Inv-loop μ-loop
+closed-requires c κs = tt
 
 count-of-requires : tie.Need-count-of-requires Inv-loop μ-loop
 count-of-requires c κs = tt
@@ -51,15 +47,20 @@ module _ (t : tie.After-to-close Inv-loop μ-loop) where
   abbrev room : ℕ
   room = at-loop .before .before .args .room
 
-  is-next : t .to-close .result ≡ next words (at-loop .loop .i)
-  is-next = t .to-close .ensures ∙ ap (λ (p : Pending). toClose p (drop (at-loop .loop .i) words) (at-loop .loop .i)) (t .before .new .ensures)
-
   at-is : t .to-close .result .at ≡ next words (at-loop .loop .i) .at
-  at-is = ap (λ (r : Reached). r .at) is-next
+  unfolding none
+  at-is = ap (λ (s : Stop). s .at) (t .to-close .ensures .0)
 
   -- it lies behind where the words began
   behind : at-loop .loop .i ≤ t .to-close .result .at
   behind = omega (arith, at-is, reached-in words none (at-loop .loop .i) (at-loop .loop .inv .i-in) .0)
+
+  ten : length (t .to-close .last .0) ≡ 10
+  unfolding none
+  ten = ap length (t .to-close .ensures .1) ∙ reached-long words none (at-loop .loop .i) refl
+
+slice-aggregate-closed : tie.Need-slice-aggregate-closed Inv-loop μ-loop
+slice-aggregate-closed c = sym (ten (c .before .before))
 
 -- a message is closed: its length, as the code has it
 module _ (k : tie.After-count-of Inv-loop μ-loop) where
@@ -73,7 +74,11 @@ module _ (k : tie.After-count-of Inv-loop μ-loop) where
   before-end = omega (arith, at-is closing, stopped)
 
   length-is : k .count-of .result ≡ length (worth (parse (openOf (next (words closing) (at-loop closing .loop .i) .pending))))
-  length-is = k .count-of .ensures ∙ ap (λ (o : Parsed). length (worth o)) (k .before .close .ensures ∙ ap (λ (r : Reached). parse (openOf (r .pending))) (is-next closing))
+  unfolding none openOf
+  length-is =
+      k .count-of .ensures
+      ∙ ap (λ (o : Parsed). length (worth o))
+      (k .before .closed .ensures ∙ ap₂ (λ (s : Stop) (x : List ℕ). parse (take (s .len) x)) (closing .to-close .ensures .0) (closing .to-close .ensures .1))
 
 returns-2 : tie.Need-returns-2 Inv-loop μ-loop
 returns-2 c =
@@ -118,10 +123,10 @@ measure-spec =
     Inv-loop
     μ-loop
     loop-holds
-    new-requires
     to-close-requires
     returns
-    close-requires
+    slice-aggregate-closed
+    closed-requires
     count-of-requires
     sub-if2
     returns-2
