@@ -145,10 +145,10 @@ pub(crate) fn take_all<'a>(
         let Written::Wrote(n) = say(said, out, at) else {
             return so_far(letter, address, offer, chars, stop, at);
         };
+        at += n;
         let store = effect.store;
         keep(values, store);
         offer = effect.offer;
-        at += n;
         chars = [0u8; hearing::MOST];
         stop = hearing::to_close(&mut chars, 0, words, stop.at + 1);
     }

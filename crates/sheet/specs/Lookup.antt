@@ -55,6 +55,7 @@ unfoldable pub markedFrom : List ℤ → ℕ → ℕ → List ℕ → List ℕ
 markedFrom s base i [] = []
 markedFrom s base i (x ∷ xs) = cond (hasRow s i) (base + placeIn s i) x ∷ markedFrom s base (suc i) xs
 
+-- the places of a list, with those of the sheet's rows in them, counted from base
 unfoldable pub marked : List ℤ → ℕ → List ℕ → List ℕ
 marked s base xs = markedFrom s base 0 xs
 

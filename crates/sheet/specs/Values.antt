@@ -29,6 +29,7 @@ entryIn bench maker i = entryOf (rowOf bench maker i)
 unfoldable pub wholeRow : List ℤ → Bool
 wholeRow r = eqb (length r) 6 && inRange (pos 1) (at r 1) (pos 3) && inRange (pos 0) (at r 2) (pos 3)
 
+-- a whole row as it is, with no further test
 unfoldable pub entryBy : List ℤ → Entry
 entryBy r = cond (wholeRow r) (Found (numbersOf r)) Missing
 

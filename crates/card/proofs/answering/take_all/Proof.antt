@@ -246,14 +246,13 @@ returns-2 c =
     (leads e) (is-turn e) (length (bytes s)) (bytes s) refl refl (in-words e) (unfit (c .before) .0))
     (c .so-far2 .result) (c .so-far2 .ensures))
 
-keep-requires : tie.Need-keep-requires Inv-loop μ-loop
-keep-requires c κs = search needs
-
 add-at : tie.Need-add-at Inv-loop μ-loop
 add-at c =
-    let k = c .before .before .before in
-    let l = at-loop (effect (said k)) in
-    omega (arith, room k, l .loop .inv .0 .out-long, start (begin l) .good .1 .1 .1 .1 .1 .0)
+    let l = at-loop (effect (said c)) in
+    omega (arith, room c, l .loop .inv .0 .out-long, start (begin l) .good .1 .1 .1 .1 .1 .0)
+
+keep-requires : tie.Need-keep-requires Inv-loop μ-loop
+keep-requires c κs = search needs
 
 add-to-close : tie.Need-add-to-close Inv-loop μ-loop
 add-to-close c =
@@ -352,8 +351,8 @@ take-all-spec =
     same-length
     same-length-2
     returns-2
-    keep-requires
     add-at
+    keep-requires
     add-to-close
     to-close-requires-2
     loop-less
