@@ -1,23 +1,21 @@
 // Hearing: what a word does to the open message, and the normal form of a recording.
 ghost use mathlib.Core.Path.{_≡_};
-ghost use Prim.Native.Nat.{_+_, _≤_};
-ghost use lib.ListN.{length, take, drop};
+ghost use Prim.Native.Nat.{_≤_};
+ghost use lib.ListN.{take, drop};
 ghost use mathlib.Core.Bool.{cond};
-ghost use lib.Dec.{eqb, leb};
+ghost use lib.Dec.{eqb};
 ghost use Rattle.refusal.specs.Refusal.{outcomeOf};
-ghost use Rattle.refusal.specs.Call.{laid};
 ghost use Rattle.wire.specs.Word.{received};
-ghost use Rattle.wire.specs.Line.{placed};
 ghost use Rattle.hearing.specs.Hearing.{none, added, openOf, opening, continuing, actionOf, perform, hear, nextOf, charsOf, stopOf, toClose, toLetter, grown};
 ghost use Rattle.hearing.specs.Sound.{plain, zeros, soundPending};
-ghost use Rattle.hearing.specs.Normal.{worth, normal, normalCall};
+ghost use Rattle.hearing.specs.Normal.{normalCall};
 ghost use Rattle.message.specs.Scan.{parse};
-use message::Body;
-use message::Message;
 use message::Parsed;
 use refusal::Refusal;
 use refusal::Written;
 use wire::Received;
+
+mod passes;
 
 // An open message holds at most this many characters before its `*`.
 pub const MOST: usize = 10;
@@ -310,113 +308,6 @@ pub fn closed(chars: &[u8], len: usize) -> Parsed
     message::parse(&chars[..len])
 }
 
-// The words that a heard message has in a normal form.
-fn count_of(message: Parsed) -> usize
-    ensures { λ r. ⌜ r ≡ length (worth message) ⌝ }
-{
-    let Parsed::Heard(m) = message else {
-        return 0;
-    };
-    message::spelled_len(m)
-}
-
-// The counting pass: whether the normal form fits the room.
-fn measure(words: &[u16], room: usize) -> bool
-    ensures { λ r. ⌜ r ≡ leb (length (normal (now (words .entry)))) room ⌝ }
-{
-    let mut n: usize = 0;
-    let mut i = 0;
-    while i < words.len() {
-        let mut chars = [0u8; MOST];
-        let stop = to_close(&mut chars, 0, words, i);
-        let at = stop.at;
-        if words.len() <= at {
-            return true;
-        }
-        let message = closed(&chars, stop.len);
-        let more = count_of(message);
-        if room - n < more {
-            return false;
-        }
-        n += more;
-        i = at + 1;
-    }
-    true
-}
-
-// A normal form is never longer than its recording, so the words are counted only where there is less room.
-fn fits(words: &[u16], room: usize) -> bool
-    ensures { λ r. ⌜ r ≡ leb (length (normal (now (words .entry)))) room ⌝ }
-{
-    if words.len() <= room {
-        return true;
-    }
-    measure(words, room)
-}
-
-// The words of a heard message into the buffer from a place on, and the place behind them.
-fn put(message: Parsed, out: &mut [u16], at: usize) -> usize
-    requires { ⌜ at + length (worth message) ≤ length (now out) ⌝ }
-    ensures { λ r. ⌜ (r ≡ at + length (worth message)) × (now (out .exit) ≡ placed (worth message) at (now (out .entry))) ⌝ }
-{
-    let Parsed::Heard(m) = message else {
-        return at;
-    };
-    let letter = m.letter;
-    let address = m.address;
-    let identifier = m.identifier;
-    let body = m.body;
-    let Body::Set { number, decimals } = body else {
-        let s = message::sign(body);
-        if address <= 9 {
-            let bytes = message::with_one_digit(letter, 48 + address, identifier, s);
-            copy(&bytes, out, at);
-            return at + 5;
-        }
-        let tens = 48 + address / 10;
-        let ones = 48 + address % 10;
-        let bytes = message::with_two_digits(letter, tens, ones, identifier, s);
-        copy(&bytes, out, at);
-        return at + 6;
-    };
-    let line = message::line_of_data(letter, address, identifier, number, decimals);
-    let bytes = line.bytes;
-    let len = line.len;
-    copy(&bytes[..len], out, at);
-    at + len
-}
-
-fn copy(bytes: &[u8], out: &mut [u16], at: usize)
-    requires { ⌜ at + length (now bytes) ≤ length (now out) ⌝ }
-    ensures { λ _. ⌜ now (out .exit) ≡ placed (now (bytes .entry)) at (now (out .entry)) ⌝ }
-{
-    let mut k = 0;
-    while k < bytes.len() {
-        out[at + k] = bytes[k] as u16;
-        k += 1;
-    }
-}
-
-// The writing pass; it gives the number of words written.
-fn fill(words: &[u16], out: &mut [u16]) -> usize
-    requires { ⌜ length (normal (now words)) ≤ length (now out) ⌝ }
-    ensures { λ r. ⌜ (r ≡ length (normal (now (words .entry)))) × (now (out .exit) ≡ laid (normal (now (words .entry))) (now (out .entry))) ⌝ }
-{
-    let mut at = 0;
-    let mut i = 0;
-    while i < words.len() {
-        let mut chars = [0u8; MOST];
-        let stop = to_close(&mut chars, 0, words, i);
-        if words.len() <= stop.at {
-            return at;
-        }
-        let message = closed(&chars, stop.len);
-        at = put(message, out, at);
-        i = stop.at + 1;
-    }
-    at
-}
-
 // The normal form of a recording.
 pub fn normal_form(words: &[u16], out: &mut [u16]) -> Written
     ensures answers { λ r. ⌜ outcomeOf r ≡ normalCall (now (words .entry)) (now (out .entry)) .outcome ⌝ }
@@ -425,10 +316,10 @@ pub fn normal_form(words: &[u16], out: &mut [u16]) -> Written
     if !wire::valid_words(words) {
         return Written::Refused(Refusal::WordAbove256);
     }
-    if !fits(words, out.len()) {
+    if !passes::fits(words, out.len()) {
         return Written::Refused(Refusal::RoomTooShort);
     }
-    Written::Wrote(fill(words, out))
+    Written::Wrote(passes::fill(words, out))
 }
 
 fn plain(chars: &[u8]) -> bool

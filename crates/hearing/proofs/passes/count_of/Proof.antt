@@ -5,8 +5,8 @@ use Rattle.wire.proofs.Words.{travelling-length}
 use Rattle.message.specs.declared.Parsed.{Parsed}
 use Rattle.hearing.specs.Normal.{worth}
 use borrow.Author.Needs.{needs}
-use Rattle.hearing.proofs.count_of.Statement.{statement}
-use Rattle.hearing.proofs.count_of.Tie as tie
+use Rattle.hearing.proofs.passes.count_of.Statement.{statement}
+use Rattle.hearing.proofs.passes.count_of.Tie as tie
 
 enum-known-message : tie.Need-enum-known-message
 enum-known-message c = search needs

@@ -12,8 +12,8 @@ use Rattle.message.specs.declared.Parsed.{Parsed}
 use Rattle.message.specs.Scan.{parse}
 use Rattle.hearing.proofs.Close.{reached-in, reached-long}
 use Rattle.hearing.proofs.Loops.{next, normal-over, normal-past, Counted, counts, counted, too-long, count-ends}
-use Rattle.hearing.proofs.measure.Statement.{statement}
-use Rattle.hearing.proofs.measure.Tie as tie
+use Rattle.hearing.proofs.passes.measure.Statement.{statement}
+use Rattle.hearing.proofs.passes.measure.Tie as tie
 
 abbrev Inv-loop : tie.InvT-loop
 Inv-loop words room n₀ i₀ n i = Counted words room n i

@@ -21,8 +21,8 @@ use Rattle.message.specs.Spell.{spellBody, spell}
 use Rattle.message.proofs.Spelling.{spell-length, one-sign, sign-one, sign-two}
 use Rattle.hearing.specs.Normal.{worth}
 use borrow.Author.Needs.{needs}
-use Rattle.hearing.proofs.put.Statement.{statement}
-use Rattle.hearing.proofs.put.Tie as tie
+use Rattle.hearing.proofs.passes.put.Statement.{statement}
+use Rattle.hearing.proofs.passes.put.Tie as tie
 
 -- what is asked where xs, n of them, are copied in place of the words
 module _ (s : tie.Start) (xs : List ℕ) (e : xs ≡ worth (s .args .message)) where

@@ -6,8 +6,8 @@ use borrow.Author.Tests.{le-leb}
 use lib.ListN.{length}
 use Rattle.hearing.specs.Normal.{normal}
 use Rattle.hearing.proofs.Loops.{normal-short}
-use Rattle.hearing.proofs.fits.Statement.{statement}
-use Rattle.hearing.proofs.fits.Tie as tie
+use Rattle.hearing.proofs.passes.fits.Statement.{statement}
+use Rattle.hearing.proofs.passes.fits.Tie as tie
 
 returns : tie.Need-returns
 returns c =

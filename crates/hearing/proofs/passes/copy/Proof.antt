@@ -4,8 +4,8 @@ use Prim.Native.Nat.{_-_}
 use native.Mathlib.Omega.{arith}
 use lib.ListN.{length}
 use Rattle.wire.proofs.Lines.{Copied, copy-starts, copy-more, copy-ends}
-use Rattle.hearing.proofs.copy.Statement.{statement}
-use Rattle.hearing.proofs.copy.Tie as tie
+use Rattle.hearing.proofs.passes.copy.Statement.{statement}
+use Rattle.hearing.proofs.passes.copy.Tie as tie
 
 abbrev Inv-loop : tie.InvT-loop
 Inv-loop bytes out₀ at k₀ out k = Copied bytes out₀ at out k

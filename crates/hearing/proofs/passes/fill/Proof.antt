@@ -10,8 +10,8 @@ use Rattle.hearing.specs.declared.Stop.{Stop}
 use Rattle.hearing.specs.Hearing.{none, openOf}
 use Rattle.hearing.proofs.Close.{reached-in, reached-long}
 use Rattle.hearing.proofs.Loops.{next, normal-over, normal-past, Filled, fills, filled, has-room, fill-ends}
-use Rattle.hearing.proofs.fill.Statement.{statement}
-use Rattle.hearing.proofs.fill.Tie as tie
+use Rattle.hearing.proofs.passes.fill.Statement.{statement}
+use Rattle.hearing.proofs.passes.fill.Tie as tie
 
 abbrev Inv-loop : tie.InvT-loop
 Inv-loop words out₀ at₀ i₀ out at i = Filled words out₀ out at i
