@@ -2,7 +2,6 @@
 //!
 //! - `KAV_ARCHIVE`, or `../target/staticlib/libabi.a`, is linked when it exists.
 //! - Feature `archive`: it must exist, otherwise the build fails.
-//! - Feature `stand-in`: nothing is linked; src/standin/ defines the seven functions.
 //!
 //! `cfg(kav_linked)` tells the rest of the crate that the seven functions can be called.
 
@@ -23,11 +22,6 @@ fn main() {
     println!("cargo::rerun-if-changed={}", archive.display());
 
     let wanted = env::var_os("CARGO_FEATURE_ARCHIVE").is_some();
-    if env::var_os("CARGO_FEATURE_STAND_IN").is_some() {
-        assert!(!wanted, "the features `archive` and `stand-in` exclude each other");
-        println!("cargo::rustc-cfg=kav_linked");
-        return;
-    }
     if archive.is_file() {
         // The file is named whole, so that no other library of that name can be taken for it.
         println!("cargo::rustc-link-arg={}", archive.display());

@@ -5,7 +5,7 @@ set -eu
 cd "$(dirname "$0")"
 words=${1:-100000}
 rows=${2:-64}
-cargo build --release --bins ${KAV_FEATURES:+--features "$KAV_FEATURES"}
+cargo build --release --bins
 bench=target/release/bench
 
 # Gives the instructions counted inside one function.

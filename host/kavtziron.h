@@ -17,8 +17,12 @@
  *
  * A refused call changes nothing lent. Nothing behind the last number written changes.
  *
- * A card is 16 numbers: letter ('L' or 'R', with no parity), address, count of open characters, ten
- * characters (0 behind), 1 or 0 for an offer, its identifier, its value (0, 0 where there is none).
+ * A card is 16 numbers: 0 letter ('L' or 'R', with no parity), 1 address, 2 count of open characters,
+ * 3 to 12 the characters (0 behind), 13 mark of an offer (1, or 0 for none), 14 its identifier, 15 its
+ * value (0, 0 where there is none). Another length, or numbers 0 to 12 that no sound card has, is number
+ * 1 before the sheets are looked at. Numbers 13 to 15 that no sound offer has (a mark of 2, an identifier
+ * of 300, a mark of 0 with a value) are number 1 after the sheets: with an unsound sheet it is number 2.
+ * A served call writes back numbers 2 to 15 and nothing else.
  * A sheet is 0 to 64 rows of six numbers: identifier, access (1 read only, 2 read and write, 3 write
  * only), decimals, step, least, greatest. Values are 128 numbers, one for each character code.
  */

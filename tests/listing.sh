@@ -24,5 +24,5 @@ $program < tests/listing/several_buffers.in >&- 2> "$err"; fails 'standard outpu
 : > "$got"
 [ ! -w /dev/full ] || { $program < tests/listing/several_buffers.in > /dev/full 2> "$err"; fails 'standard output' "a write to a full disk"; }
 rm -f "$got" "$err"
-echo "$passed passed, $failed failed"
+echo "listing: $passed passed, $failed failed"
 [ "$failed" = 0 ]

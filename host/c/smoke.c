@@ -3,7 +3,7 @@
  *
  *   gcc -std=c11 -Wall -Wextra -O2 -I. c/smoke.c ../target/staticlib/libabi.a -o c/smoke && c/smoke
  *
- * or c/smoke.sh, which also knows the stand-in.
+ * or c/smoke.sh.
  */
 #include "kavtziron.h"
 
@@ -96,6 +96,16 @@ int main(void) {
     check("step with little room",
           kav_step(card, KAV_CARD, bench, bench_length, maker, 0, values, KAV_VALUES,
                    KAV_SILENCE, out, 10), -5);
+
+    /* Numbers that are no offer are judged after the sheets. */
+    card[13] = 2;
+    check("step with a mark of 2",
+          kav_step(card, KAV_CARD, bench, bench_length, maker, 0, values, KAV_VALUES,
+                   KAV_SILENCE, out, sizeof out), -1);
+    check("step with a mark of 2 and a part of a sheet",
+          kav_step(card, KAV_CARD, bench, bench_length - 1, maker, 0, values, KAV_VALUES,
+                   KAV_SILENCE, out, sizeof out), -2);
+    card[13] = 0;
 
     length = words_of("xL07M?*L7J#00006*L7", words);
     int64_t count = kav_normal_form(words, length, normal, 64);

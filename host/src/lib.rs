@@ -9,6 +9,3 @@
 pub mod abi;
 pub mod gen;
 pub mod reference;
-#[cfg(feature = "stand-in")]
-#[rustfmt::skip]
-pub mod standin;

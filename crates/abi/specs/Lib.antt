@@ -1,4 +1,3 @@
 pub mod Result
 pub mod Rows
-pub mod Card
 pub mod Calls

@@ -6,11 +6,12 @@ use Prim.Native.Char.{code}
 use mathlib.Core.List.{List}
 use lib.Dec.{leb, eqb}
 use lib.IntN.{ℤ, pos, negℤ}
-use Rattle.refusal.specs.Refusal.{Outcome, refused, gave}
+use Rattle.refusal.specs.Refusal.{Outcome, refused, gave, numberOf}
 use Rattle.refusal.specs.Call.{Call, refuses}
 use Rattle.refusal.specs.declared.Refusal.the-variants.{NotMessage}
+use Rattle.number.specs.Data.{withDecimals}
 use Rattle.message.specs.Message.{question}
-use Rattle.message.specs.Scan.{message}
+use Rattle.message.specs.Prefix.{message}
 use Rattle.message.specs.Spell.{writeCall}
 use Rattle.listing.specs.Line.{lineCall}
 use Rattle.message.specs.declared.Body.the-variants.{Status, Query, Up, Down, Set, Store}
@@ -22,21 +23,36 @@ abbrev pub greatest : ℕ
 greatest = 9223372036854775807
 
 -- a count as it is; one above the greatest i64, which no buffer has, is given as that
-unfoldable pub counted : ℕ → ℤ
-counted n = cond (leb n greatest) (pos n) (pos greatest)
+unfoldable pub countResult : ℕ → ℤ
+countResult n = cond (leb n greatest) (pos n) (pos greatest)
 
-unfoldable pub minus : ℕ → ℤ
-minus n = negℤ (pos n)
+-- the result of a refused call
+unfoldable pub minusNumber : ℕ → ℤ
+minusNumber n = negℤ (pos n)
 
 -- minus the number, or the count
 unfoldable pub resultOf : Outcome ℕ → ℤ
-resultOf (refused n) = minus n
-resultOf (gave n) = counted n
+resultOf (refused n) = minusNumber n
+resultOf (gave n) = countResult n
+
+-- ---- a call that writes into one buffer
+
+-- the result, and the whole buffer afterwards
+pub record Filled (A : Type 0) : Type 0 where
+  pub result : ℤ
+  pub buffer : List A
+
+abbrev pub filled : {A : Type 0} → ℤ → List A → Filled A
+filled z out = record { result = z; buffer = out }
+
+-- a call's outcome as its result
+abbrev pub given : Call → Filled ℕ
+given c = filled (resultOf (c .outcome)) (c .buffer)
 
 -- ---- the message that a host asks for, by the first character of its body; what fits no byte is no message
 
 unfoldable pub setOf : ℕ → ℕ → ℕ → ℤ → ℕ → Parsed
-setOf l a i n d = cond (leb d 255) (Heard (message l a i (Set n d))) Unheard
+setOf l a i n d = cond (leb d 255) (Heard (message l a i (Set (withDecimals n d)))) Unheard
 
 unfoldable pub bodyOf : ℕ → ℕ → ℕ → ℕ → ℤ → ℕ → Parsed
 bodyOf l a i k n d =
@@ -52,9 +68,9 @@ asked l a i k n d = cond (leb a 255) (bodyOf l a i k n d) Unheard
 -- document 01, number 7: "asked for something that isn't a heard message"
 unfoldable pub writeAsked : Parsed → List ℕ → Call
 writeAsked (Heard m) out = writeCall m out
-writeAsked Unheard out = refuses NotMessage out
+writeAsked Unheard out = refuses out (numberOf NotMessage)
 
 -- the line of the listing, in the same way
 unfoldable pub lineAsked : ℕ → Parsed → List ℕ → Call
 lineAsked at (Heard m) out = lineCall at m out
-lineAsked at Unheard out = refuses NotMessage out
+lineAsked at Unheard out = refuses out (numberOf NotMessage)

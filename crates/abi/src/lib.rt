@@ -4,40 +4,42 @@ ghost use mathlib.Core.Path.{_≡_};
 ghost use Prim.Native.Nat.{_≤_};
 ghost use lib.ListN.{length, set};
 ghost use Rattle.refusal.specs.Refusal.{outcomeOf, numberOf};
+ghost use Rattle.refusal.specs.Check.{first};
+ghost use Rattle.refusal.specs.Buffer.{laid};
 ghost use Rattle.hearing.specs.Normal.{normalCall};
-ghost use Rattle.reply.specs.Read.{readCall};
+ghost use Rattle.message.specs.Prefix.{message};
 ghost use Rattle.sheet.specs.Lookup.{shown};
-ghost use Rattle.message.specs.Scan.{message};
-ghost use Rattle.abi.specs.Result.{minus, counted, resultOf, setOf, bodyOf, asked, writeAsked, lineAsked};
-ghost use Rattle.card.specs.Sound.{verdictOf};
-ghost use Rattle.abi.specs.Calls.{kavStep, kavRun, shortRun};
-ghost use Rattle.abi.specs.Rows.{inFront, answerRow, readInto, lookupInto};
+ghost use Rattle.reply.specs.Read.{readCall};
+ghost use Rattle.card.specs.Refusals.{cardChecks};
+ghost use Rattle.abi.specs.Result.{minusNumber, countResult, resultOf, filled, given, setOf, bodyOf, asked, writeAsked, lineAsked};
+ghost use Rattle.abi.specs.Rows.{answerRow, readInto, lookupInto};
+ghost use Rattle.abi.specs.Calls.{oneWord, kavStep, manyWords, shortRun, kavRun};
 use card::Card;
-use card::Taken;
-use card::Verdict;
+use card::RunAnswer;
+use card::StepAnswer;
 use message::Body;
 use message::Message;
 use message::Parsed;
+use number::Decimal;
 use refusal::Refusal;
+use refusal::Verdict;
 use refusal::Written;
 use reply::Answer;
 use reply::Content;
 use reply::Reading;
 
-mod row;
-
 // ---- results
 
 // Minus the refusal's number.
-fn minus(refusal: Refusal) -> i64
-    ensures { λ r. ⌜ r ≡ minus (numberOf refusal) ⌝ }
+fn minus_number(refusal: Refusal) -> i64
+    ensures { λ r. ⌜ r ≡ minusNumber (numberOf refusal) ⌝ }
 {
     -(refusal::number(refusal) as i64)
 }
 
 // A count; no buffer has more than the greatest i64.
-fn counted(n: usize) -> i64
-    ensures { λ r. ⌜ r ≡ counted n ⌝ }
+fn count_result(n: usize) -> i64
+    ensures { λ r. ⌜ r ≡ countResult n ⌝ }
 {
     if n <= 9223372036854775807 {
         n as i64
@@ -50,8 +52,8 @@ fn result(answer: Written) -> i64
     ensures { λ r. ⌜ r ≡ resultOf (outcomeOf answer) ⌝ }
 {
     match answer {
-        Written::Refused(refusal) => minus(refusal),
-        Written::Wrote(n) => counted(n),
+        Written::Refused(refusal) => minus_number(refusal),
+        Written::Wrote(n) => count_result(n),
     }
 }
 
@@ -75,7 +77,8 @@ fn set_of(letter: u8, address: u8, identifier: u8, number: i32, decimals: u32) -
         return Parsed::Unheard;
     }
     let decimals = decimals as u8;
-    heard(letter, address, identifier, Body::Set { number, decimals })
+    let x = Decimal { number, decimals };
+    heard(letter, address, identifier, Body::Set(x))
 }
 
 fn body_of(letter: u8, address: u8, identifier: u8, kind: u8, number: i32, decimals: u32) -> Parsed
@@ -116,7 +119,7 @@ fn asked(letter: u8, address: u32, identifier: u8, kind: u8, number: i32, decima
 // The numbers at the front of a row.
 fn copy(numbers: &[i32], out: &mut [i32])
     requires { ⌜ length (now numbers) ≤ length (now out) ⌝ }
-    ensures { λ _. ⌜ now (out .exit) ≡ inFront (now (numbers .entry)) (now (out .entry)) ⌝ }
+    ensures { λ _. ⌜ now (out .exit) ≡ laid (now (numbers .entry)) (now (out .entry)) ⌝ }
 {
     let mut k = 0;
     while k < numbers.len() {
@@ -136,8 +139,9 @@ fn answer_row(answer: Answer) -> [i32; 7]
     let content = answer.content;
     match content {
         Content::Empty => [letter, address, identifier, mark, 0, 0, 0],
-        Content::Number { number, decimals } => {
-            let decimals = row::wide(decimals);
+        Content::Number(x) => {
+            let number = x.number;
+            let decimals = row::wide(x.decimals);
             [letter, address, identifier, mark, 1, number, decimals]
         }
     }
@@ -148,8 +152,7 @@ fn answer_row(answer: Answer) -> [i32; 7]
 // The normal form of a recording: the count of words written.
 #[no_mangle]
 pub extern "C" fn kav_normal_form(words: &[u16], out: &mut [u16]) -> i64
-    ensures answers { λ r. ⌜ r ≡ resultOf (normalCall (now (words .entry)) (now (out .entry)) .outcome) ⌝ }
-    ensures leaves { λ r. ⌜ now (out .exit) ≡ normalCall (now (words .entry)) (now (out .entry)) .buffer ⌝ }
+    ensures { λ r. ⌜ filled r (now (out .exit)) ≡ given (normalCall (now (words .entry)) (now (out .entry))) ⌝ }
 {
     result(hearing::normal_form(words, out))
 }
@@ -165,12 +168,11 @@ pub extern "C" fn kav_write(
     decimals: u32,
     out: &mut [u8],
 ) -> i64
-    ensures answers { λ r. ⌜ r ≡ resultOf (writeAsked (asked letter address identifier kind number decimals) (now (out .entry)) .outcome) ⌝ }
-    ensures leaves { λ r. ⌜ now (out .exit) ≡ writeAsked (asked letter address identifier kind number decimals) (now (out .entry)) .buffer ⌝ }
+    ensures { λ r. ⌜ filled r (now (out .exit)) ≡ given (writeAsked (asked letter address identifier kind number decimals) (now (out .entry))) ⌝ }
 {
     match asked(letter, address, identifier, kind, number, decimals) {
         Parsed::Heard(message) => result(message::write(message, out)),
-        Parsed::Unheard => minus(Refusal::NotMessage),
+        Parsed::Unheard => minus_number(Refusal::NotMessage),
     }
 }
 
@@ -186,26 +188,24 @@ pub extern "C" fn kav_line(
     decimals: u32,
     out: &mut [u8],
 ) -> i64
-    ensures answers { λ r. ⌜ r ≡ resultOf (lineAsked at (asked letter address identifier kind number decimals) (now (out .entry)) .outcome) ⌝ }
-    ensures leaves { λ r. ⌜ now (out .exit) ≡ lineAsked at (asked letter address identifier kind number decimals) (now (out .entry)) .buffer ⌝ }
+    ensures { λ r. ⌜ filled r (now (out .exit)) ≡ given (lineAsked at (asked letter address identifier kind number decimals) (now (out .entry))) ⌝ }
 {
     match asked(letter, address, identifier, kind, number, decimals) {
         Parsed::Heard(message) => result(listing::line(at, message, out)),
-        Parsed::Unheard => minus(Refusal::NotMessage),
+        Parsed::Unheard => minus_number(Refusal::NotMessage),
     }
 }
 
 // One reply: 7, with its answer as seven numbers.
 #[no_mangle]
 pub extern "C" fn kav_read(bytes: &[u8], answer: &mut [i32]) -> i64
-    ensures answers { λ r. ⌜ r ≡ readInto (readCall (now (bytes .entry))) (now (answer .entry)) .result ⌝ }
-    ensures leaves { λ r. ⌜ now (answer .exit) ≡ readInto (readCall (now (bytes .entry))) (now (answer .entry)) .row ⌝ }
+    ensures { λ r. ⌜ filled r (now (answer .exit)) ≡ readInto (readCall (now (bytes .entry))) (now (answer .entry)) ⌝ }
 {
     match reply::read(bytes) {
-        Reading::Refused(refusal) => minus(refusal),
+        Reading::Refused(refusal) => minus_number(refusal),
         Reading::Gave(gave) => {
             if answer.len() < 7 {
-                return minus(Refusal::RoomTooShort);
+                return minus_number(Refusal::RoomTooShort);
             }
             let numbers = answer_row(gave);
             copy(&numbers, answer);
@@ -222,11 +222,10 @@ pub extern "C" fn kav_lookup<'a>(
     identifier: u8,
     row: &mut [i32],
 ) -> i64
-    ensures answers { λ r. ⌜ r ≡ lookupInto (shown (now (bench .entry)) (now (maker .entry)) identifier) (now (row .entry)) .result ⌝ }
-    ensures leaves { λ r. ⌜ now (row .exit) ≡ lookupInto (shown (now (bench .entry)) (now (maker .entry)) identifier) (now (row .entry)) .row ⌝ }
+    ensures { λ r. ⌜ filled r (now (row .exit)) ≡ lookupInto (shown (now (bench .entry)) (now (maker .entry)) identifier) (now (row .entry)) ⌝ }
 {
     if row.len() < 6 {
-        return minus(Refusal::RoomTooShort);
+        return minus_number(Refusal::RoomTooShort);
     }
     let part = sheet::lookup(bench, maker, identifier);
     if part.len() != 6 {
@@ -246,23 +245,19 @@ pub extern "C" fn kav_step<'a>(
     word: u16,
     out: &mut [u8],
 ) -> i64
-    ensures { λ r. ⌜ (r ≡ kavStep (now (card .entry)) (now (bench .entry)) (now (maker .entry)) (now (values .entry)) word (now (out .entry)) .result)
-        × (now (card .exit) ≡ kavStep (now (card .entry)) (now (bench .entry)) (now (maker .entry)) (now (values .entry)) word (now (out .entry)) .row)
-        × (now (values .exit) ≡ kavStep (now (card .entry)) (now (bench .entry)) (now (maker .entry)) (now (values .entry)) word (now (out .entry)) .values)
-        × (now (out .exit) ≡ kavStep (now (card .entry)) (now (bench .entry)) (now (maker .entry)) (now (values .entry)) word (now (out .entry)) .buffer) ⌝ }
+    ensures { λ r. ⌜ oneWord r (now (card .exit)) (now (values .exit)) (now (out .exit)) ≡ kavStep (now (card .entry)) (now (bench .entry)) (now (maker .entry)) (now (values .entry)) word (now (out .entry)) ⌝ }
 {
     if !row::is_row(card) {
-        return minus(Refusal::UnsoundCard);
+        return minus_number(Refusal::UnsoundCard);
     }
     let stepped = card::step(row::card_of(card), bench, maker, values, word, out);
     let answer = stepped.answer;
     match answer {
-        Written::Refused(refusal) => minus(refusal),
-        Written::Wrote(n) => {
+        StepAnswer::Refused(refusal) => minus_number(refusal),
+        StepAnswer::Replied(n) => {
             let next = stepped.card;
-            let row = row::row_of(next);
-            copy(&row, card);
-            counted(n)
+            row::store(next, card);
+            count_result(n)
         }
     }
 }
@@ -287,14 +282,10 @@ pub extern "C" fn kav_run<'a>(
     out: &mut [u8],
     counts: &mut [u64],
 ) -> i64
-    ensures { λ r. ⌜ (r ≡ kavRun (now (card .entry)) (now (bench .entry)) (now (maker .entry)) (now (values .entry)) (now (words .entry)) (now (out .entry)) (now (counts .entry)) .result)
-        × (now (card .exit) ≡ kavRun (now (card .entry)) (now (bench .entry)) (now (maker .entry)) (now (values .entry)) (now (words .entry)) (now (out .entry)) (now (counts .entry)) .row)
-        × (now (values .exit) ≡ kavRun (now (card .entry)) (now (bench .entry)) (now (maker .entry)) (now (values .entry)) (now (words .entry)) (now (out .entry)) (now (counts .entry)) .values)
-        × (now (out .exit) ≡ kavRun (now (card .entry)) (now (bench .entry)) (now (maker .entry)) (now (values .entry)) (now (words .entry)) (now (out .entry)) (now (counts .entry)) .buffer)
-        × (now (counts .exit) ≡ kavRun (now (card .entry)) (now (bench .entry)) (now (maker .entry)) (now (values .entry)) (now (words .entry)) (now (out .entry)) (now (counts .entry)) .counts) ⌝ }
+    ensures { λ r. ⌜ manyWords r (now (card .exit)) (now (values .exit)) (now (out .exit)) (now (counts .exit)) ≡ kavRun (now (card .entry)) (now (bench .entry)) (now (maker .entry)) (now (values .entry)) (now (words .entry)) (now (out .entry)) (now (counts .entry)) ⌝ }
 {
     if !row::is_row(card) {
-        return minus(Refusal::UnsoundCard);
+        return minus_number(Refusal::UnsoundCard);
     }
     let held = row::card_of(card);
     if counts.len() < 2 {
@@ -303,11 +294,10 @@ pub extern "C" fn kav_run<'a>(
     let ran = card::run(held, bench, maker, values, words, out);
     let answer = ran.answer;
     match answer {
-        Taken::Refused(refusal) => minus(refusal),
-        Taken::Took { words, bytes } => {
+        RunAnswer::Refused(refusal) => minus_number(refusal),
+        RunAnswer::Took { words, bytes } => {
             let next = ran.card;
-            let row = row::row_of(next);
-            copy(&row, card);
+            row::store(next, card);
             count(counts, words, bytes);
             0
         }
@@ -322,10 +312,10 @@ fn short_run<'a>(
     values: &[i32],
     words: &[u16],
 ) -> i64
-    ensures { λ r. ⌜ r ≡ shortRun (verdictOf card (now (bench .entry)) (now (maker .entry)) (now (values .entry)) (now (words .entry))) ⌝ }
+    ensures { λ r. ⌜ r ≡ shortRun (first (cardChecks card (now (bench .entry)) (now (maker .entry)) (now (values .entry)) (now (words .entry)))) ⌝ }
 {
     match card::check(card, bench, maker, values, words) {
-        Verdict::Refused(refusal) => minus(refusal),
-        Verdict::Sound => minus(Refusal::RoomTooShort),
+        Verdict::Refused(refusal) => minus_number(refusal),
+        Verdict::Passed => minus_number(Refusal::RoomTooShort),
     }
 }

@@ -12,7 +12,8 @@ use lib.IntN.{ℤ, pos}
 use lib.ListN.{getD}
 use Rattle.refusal.proofs.Logic.{and-right, ands, choice}
 use Rattle.number.specs.Number.{inRange, cut, raised, lowered}
-use Rattle.number.specs.Data.{fits}
+use Rattle.number.specs.declared.Decimal.{Decimal}
+use Rattle.number.specs.Data.{withDecimals, fits}
 use Rattle.number.proofs.Cuts.{raised-is, lowered-is}
 use Rattle.number.proofs.Reading.{within-fits}
 use Rattle.message.specs.declared.Body.{Body}
@@ -26,18 +27,19 @@ use Rattle.sheet.specs.declared.Entry.the-variants.{Found, Missing}
 use Rattle.sheet.specs.Values.{entryIn, isReadable, isWritable, isReadWrite, fitsRow, soundValues}
 use Rattle.sheet.proofs.Values.{SoundRow, entry-sound, good-values, fits-parts, range-small, value-small, up-fits, down-fits, cut-fits}
 use Rattle.reply.specs.declared.Mark.{Mark}
-use Rattle.reply.specs.declared.Mark.the-variants.{Accepted, Offered, Refused}
+use Rattle.reply.specs.declared.Mark.the-variants.{Accepted, Offered, Declined}
 use Rattle.reply.specs.declared.Content.{Content}
 use Rattle.reply.specs.declared.Content.the-variants.{Empty, Number}
 use Rattle.reply.specs.declared.Answer.{Answer}
 use Rattle.reply.specs.Reply.{fitsContent, isAnswer}
 use Rattle.reply.proofs.Reader.{parts-answer, content-number, content-status}
+use Rattle.act.specs.declared.Setup.{Setup}
 use Rattle.act.specs.declared.Offer.{Offer}
 use Rattle.act.specs.declared.Offer.the-variants.{Nothing, Held}
 use Rattle.act.specs.declared.Said.the-variants.{Silence, Reply}
 use Rattle.act.specs.declared.Store.the-variants.{Keep, Put}
 use Rattle.act.specs.declared.Effect.{Effect}
-use Rattle.act.specs.Act.{answerTo, says, puts, shownBy, declines, query, moves, up, down, offers, set, decimalsOf, store, serve, respond, act}
+use Rattle.act.specs.Act.{answerTo, says, accepts, shownBy, declines, query, moves, up, down, offers, setTo, decimalsOf, store, serve, isFor, respond, act}
 
 -- the row of i allows the value z
 pub record Allowed (bench maker : List ℤ) (i : ℕ) (z : ℤ) : Type 0 where
@@ -65,11 +67,11 @@ said-is : (a b : Answer) → Reply a ≡ Reply b → isAnswer a ≡ true → isA
 said-is a b e h = let q : a ≡ b = cc in rw q at h
 
 -- what is in the range of a sound row can be written with the row's decimals
-row-fits : (r : Row) → SoundRow r → (z : ℤ) → inRange (r .least) z (r .greatest) ≡ true → fits z (r .decimals) ≡ true
-row-fits r s z h = within-fits z (r .decimals) (range-small r s z h) (s .decimals-most)
+row-fits : (r : Row) → SoundRow r → (z : ℤ) → inRange (r .least) z (r .greatest) ≡ true → fits (withDecimals z (r .decimals)) ≡ true
+row-fits r s z h = within-fits (withDecimals z (r .decimals)) (range-small r s z h) (s .decimals-most)
 
-zero-fits : fits (pos 0) 0 ≡ true
-zero-fits = within-fits (pos 0) 0 (lit≤ tt) (lit≤ tt)
+zero-fits : fits (withDecimals (pos 0) 0) ≡ true
+zero-fits = within-fits (withDecimals (pos 0) 0) (lit≤ tt) (lit≤ tt)
 
 module _ (bench maker : List ℤ) where
   -- nothing said and nothing stored, whatever is on offer
@@ -81,14 +83,14 @@ module _ (bench maker : List ℤ) where
     unfolding says
     good-says k x h = record { stores = λ i z e. kept e; answers = λ a e. said-is (answerTo m k x) a e h }
 
-    good-puts : (z : ℤ) (d : ℕ) → isAnswer (answerTo m Accepted (Number z d)) ≡ true → Allowed bench maker (m .identifier) z → Good bench maker (puts m z d)
-    unfolding puts
-    good-puts z d h p = record {
+    good-accepts : (z : ℤ) (d : ℕ) → isAnswer (answerTo m Accepted (Number (withDecimals z d))) ≡ true → Allowed bench maker (m .identifier) z → Good bench maker (accepts m z d)
+    unfolding accepts
+    good-accepts z d h p = record {
       stores = λ i y e.
           let q : m .identifier ≡ i = cc in
           let s : z ≡ y = cc in
           subst (λ (k : ℕ). Allowed bench maker k y) q (subst (Allowed bench maker (m .identifier)) s p);
-      answers = λ a e. said-is (answerTo m Accepted (Number z d)) a e h;
+      answers = λ a e. said-is (answerTo m Accepted (Number (withDecimals z d))) a e h;
     }
 
 -- ---- a message m, under sound values
@@ -106,8 +108,8 @@ module _ (bench maker values : List ℤ) (v : soundValues bench maker values ≡
 
   -- every type but the first
   module _ (q : eqb (m .identifier) question ≡ false) where
-    number : (k : Mark) (z : ℤ) (d : ℕ) → fits z d ≡ true → isAnswer (answerTo m k (Number z d)) ≡ true
-    number k z d f = known k (Number z d) (content-number (m .identifier) k z d q f)
+    number : (k : Mark) (x : Decimal) → fits x ≡ true → isAnswer (answerTo m k (Number x)) ≡ true
+    number k x f = known k (Number x) (content-number (m .identifier) k x q f)
 
     -- with a row r
     module _ (r : Row) (f : entry ≡ Found r) where
@@ -117,15 +119,15 @@ module _ (bench maker values : List ℤ) (v : soundValues bench maker values ≡
       held : fitsRow r value ≡ true
       held = good-values bench maker values v .each (m .identifier) r f
 
-      in-row : (k : Mark) (z : ℤ) → inRange (r .least) z (r .greatest) ≡ true → isAnswer (answerTo m k (Number z (r .decimals))) ≡ true
-      in-row k z h = number k z (r .decimals) (row-fits r row-sound z h)
+      in-row : (k : Mark) (z : ℤ) → inRange (r .least) z (r .greatest) ≡ true → isAnswer (answerTo m k (Number (withDecimals z (r .decimals)))) ≡ true
+      in-row k z h = number k (withDecimals z (r .decimals)) (row-fits r row-sound z h)
 
-      held-known : (k : Mark) → isAnswer (answerTo m k (Number value (r .decimals))) ≡ true
+      held-known : (k : Mark) → isAnswer (answerTo m k (Number (withDecimals value (r .decimals)))) ≡ true
       held-known k = in-row k value (fits-parts r value held .0)
 
-      stores : (z : ℤ) → fitsRow r z ≡ true → Good bench maker (puts m z (r .decimals))
+      stores : (z : ℤ) → fitsRow r z ≡ true → Good bench maker (accepts m z (r .decimals))
       stores z h =
-          good-puts bench maker m z (r .decimals) (in-row Accepted z (fits-parts r z h .0)) (record { row = r; found = f; fits = h })
+          good-accepts bench maker m z (r .decimals) (in-row Accepted z (fits-parts r z h .0)) (record { row = r; found = f; fits = h })
 
       -- the stored value fits its row, so a step from it is a plain sum
       raises : inRange (r .least) (raised value (r .step)) (r .greatest) ≡ true → fitsRow r (raised value (r .step)) ≡ true
@@ -138,22 +140,22 @@ module _ (bench maker values : List ℤ) (v : soundValues bench maker values ≡
           let s = lowered-is value (r .step) (value-small r row-sound value held) (row-sound .step-most) in
           rw s (down-fits r value held (rw s at e))
 
-    shown : (e : Entry) → entry ≡ e → isAnswer (answerTo m Refused (shownBy e value)) ≡ true
+    shown : (e : Entry) → entry ≡ e → isAnswer (answerTo m Declined (shownBy e value)) ≡ true
     unfolding shownBy
     shown (Found r) f =
-        choice (λ (x : Content). isAnswer (answerTo m Refused x) ≡ true) (isReadable r)
-        (λ t. held-known r f Refused) (λ t. number Refused (pos 0) 0 zero-fits)
-    shown Missing f = number Refused (pos 0) 0 zero-fits
+        choice (λ (x : Content). isAnswer (answerTo m Declined x) ≡ true) (isReadable r)
+        (λ t. held-known r f Declined) (λ t. number Declined (withDecimals (pos 0) 0) zero-fits)
+    shown Missing f = number Declined (withDecimals (pos 0) 0) zero-fits
 
     good-declines : (e : Entry) → entry ≡ e → Good bench maker (declines m e value)
     unfolding declines
-    good-declines e f = good-says bench maker m Refused (shownBy e value) (shown e f)
+    good-declines e f = good-says bench maker m Declined (shownBy e value) (shown e f)
 
     good-query : (e : Entry) → entry ≡ e → Good bench maker (query m e value)
     unfolding query
     good-query (Found r) f =
         choice (Good bench maker) (isReadable r)
-        (λ t. good-says bench maker m Accepted (Number value (r .decimals)) (held-known r f Accepted)) (λ t. good-declines (Found r) f)
+        (λ t. good-says bench maker m Accepted (Number (withDecimals value (r .decimals))) (held-known r f Accepted)) (λ t. good-declines (Found r) f)
     good-query Missing f = good-declines Missing f
 
     good-moves : (r : Row) (z : ℤ) → entry ≡ Found r → (inRange (r .least) z (r .greatest) ≡ true → fitsRow r z ≡ true) → Good bench maker (moves m r value z)
@@ -172,16 +174,16 @@ module _ (bench maker values : List ℤ) (v : soundValues bench maker values ≡
     good-down (Found r) f = good-moves r (lowered value (r .step)) f (lowers r f)
     good-down Missing f = good-declines Missing f
 
-    good-set : (e : Entry) (n : ℤ) (d : ℕ) → entry ≡ e → Good bench maker (set m e value n d)
-    unfolding set offers
-    good-set (Found r) n d f =
-        choice (Good bench maker) (isWritable r && eqb d (r .decimals) && inRange (r .least) n (r .greatest))
+    good-set : (e : Entry) (x : Decimal) → entry ≡ e → Good bench maker (setTo m e value x)
+    unfolding setTo offers
+    good-set (Found r) x f =
+        choice (Good bench maker) (isWritable r && eqb (x .decimals) (r .decimals) && inRange (r .least) (x .number) (r .greatest))
         (λ t.
-        let z = cut n (r .step) in
-        let h = in-row r f Offered z (fits-parts r z (cut-fits r (row-sound r f) n (search ands)) .0) in
-        record { stores = λ i y e. kept e; answers = λ a e. said-is (answerTo m Offered (Number z (r .decimals))) a e h })
+        let z = cut (x .number) (r .step) in
+        let h = in-row r f Offered z (fits-parts r z (cut-fits r (row-sound r f) (x .number) (search ands)) .0) in
+        record { stores = λ i y e. kept e; answers = λ a e. said-is (answerTo m Offered (Number (withDecimals z (r .decimals)))) a e h })
         (λ t. good-declines (Found r) f)
-    good-set Missing n d f = good-declines Missing f
+    good-set Missing x f = good-declines Missing f
 
     good-store : (o : Offer) → Fair bench maker o → Good bench maker (store m entry o)
     unfolding store
@@ -189,7 +191,7 @@ module _ (bench maker values : List ℤ) (v : soundValues bench maker values ≡
         choice (Good bench maker) (eqb i (m .identifier))
         (λ t.
         let f : entry ≡ Found (g .row) = ap (entryIn bench maker) (sym (eqb-true i (m .identifier) t)) ∙ g .found in
-        subst (λ (e : Entry). Good bench maker (puts m z (decimalsOf e))) (sym f) (stores (g .row) f z (g .fits)))
+        subst (λ (e : Entry). Good bench maker (accepts m z (decimalsOf e))) (sym f) (stores (g .row) f z (g .fits)))
         (λ t. good-silence bench maker Nothing)
     good-store Nothing g = good-silence bench maker Nothing
 
@@ -199,11 +201,11 @@ module _ (bench maker values : List ℤ) (v : soundValues bench maker values ≡
   good-serve o g body.Query f = good-query f entry refl
   good-serve o g body.Up f = good-up f entry refl
   good-serve o g body.Down f = good-down f entry refl
-  good-serve o g (body.Set n d) f = good-set (f .0) entry n d refl
+  good-serve o g (body.Set x) f = good-set (f .0) entry x refl
   good-serve o g body.Store f = good-store f o g
 
-  pub good-act : (letter address : ℕ) (o : Offer) → Fair bench maker o → Good bench maker (act bench maker letter address o values m)
+  pub good-act : (c : Setup) (o : Offer) → Fair bench maker o → Good bench maker (act bench maker c o values m)
   unfolding act respond
-  good-act letter address o g =
-      choice (Good bench maker) (eqb (m .letter) letter && eqb (m .address) address)
+  good-act c o g =
+      choice (Good bench maker) (isFor c m)
       (λ t. good-serve o g (m .body) (body-parts (m .identifier) (m .body) (p .fits-body))) (λ t. good-silence bench maker Nothing)

@@ -1,6 +1,6 @@
 -- What is on offer after a message: only a Type 3 leaves an offer, the cut of its number for its identifier, where the row is not read
 -- only and the number is in range. And such a Type 3 does leave it. Assumes nothing.
-use mathlib.Core.Path.{_≡_, refl, ap, _∙_}
+use mathlib.Core.Path.{_≡_, refl, sym, ap, _∙_}
 use mathlib.Core.Bool.{true, false, _&&_}
 use mathlib.Core.List.{List}
 use Prim.Native.Nat.{ℕ}
@@ -9,7 +9,9 @@ use borrow.Author.Tests.{eq-eqb}
 use lib.Dec.{eqb}
 use lib.IntN.{ℤ, pos}
 use lib.ListN.{getD}
-use Rattle.refusal.proofs.Logic.{ands, choice}
+use Rattle.refusal.proofs.Logic.{ands, and-both, choice}
+use Rattle.number.specs.declared.Decimal.{Decimal}
+use Rattle.number.specs.Data.{withDecimals}
 use Rattle.number.specs.Number.{inRange, cut, raised, lowered}
 use Rattle.message.specs.declared.Body.{Body}
 use Rattle.message.specs.declared.Body.the-variants as body
@@ -19,26 +21,26 @@ use Rattle.sheet.specs.declared.Entry.{Entry}
 use Rattle.sheet.specs.declared.Entry.the-variants.{Found, Missing}
 use Rattle.sheet.specs.Values.{entryIn, isReadable, isWritable, isReadWrite}
 use Rattle.reply.specs.declared.Mark.{Mark}
-use Rattle.reply.specs.declared.Mark.the-variants.{Accepted, Offered, Refused}
+use Rattle.reply.specs.declared.Mark.the-variants.{Accepted, Offered, Declined}
 use Rattle.reply.specs.declared.Content.{Content}
 use Rattle.reply.specs.declared.Content.the-variants.{Empty, Number}
+use Rattle.act.specs.declared.Setup.{Setup}
 use Rattle.act.specs.declared.Offer.{Offer}
 use Rattle.act.specs.declared.Offer.the-variants.{Nothing, Held}
 use Rattle.act.specs.declared.Said.the-variants.{Reply}
 use Rattle.act.specs.declared.Effect.{Effect}
-use Rattle.act.specs.Act.{answerTo, says, puts, shownBy, declines, query, moves, up, down, offers, set, decimalsOf, store, serve, respond, act}
+use Rattle.act.specs.Act.{answerTo, says, accepts, shownBy, declines, query, moves, up, down, offers, setTo, decimalsOf, store, serve, isFor, respond, act}
 
 -- the message m leaves the value z on offer for the identifier i
 pub record Leaves (bench maker : List ℤ) (m : Message) (i : ℕ) (z : ℤ) : Type 0 where
   pub row : Row
-  pub number : ℤ
-  pub decimals : ℕ
-  pub type-3 : m .body ≡ body.Set number decimals
+  pub number : Decimal
+  pub type-3 : m .body ≡ body.Set number
   pub its : m .identifier ≡ i
   pub found : entryIn bench maker (m .identifier) ≡ Found row
   pub writable : isWritable row ≡ true
-  pub in-range : inRange (row .least) number (row .greatest) ≡ true
-  pub value : cut number (row .step) ≡ z
+  pub in-range : inRange (row .least) (number .number) (row .greatest) ≡ true
+  pub value : cut (number .number) (row .step) ≡ z
 
 -- ---- whatever the message and the card
 
@@ -53,23 +55,23 @@ module _ (bench maker : List ℤ) (m : Message) where
   unfolding says
   left-says k x i z e = nothing e
 
-  left-puts : (v : ℤ) (d : ℕ) → Left (puts m v d)
-  unfolding puts
-  left-puts v d i z e = nothing e
+  left-accepts : (v : ℤ) (d : ℕ) → Left (accepts m v d)
+  unfolding accepts
+  left-accepts v d i z e = nothing e
 
   left-declines : (e : Entry) (v : ℤ) → Left (declines m e v)
   unfolding declines
-  left-declines e v = left-says Refused (shownBy e v)
+  left-declines e v = left-says Declined (shownBy e v)
 
   left-query : (e : Entry) (v : ℤ) → Left (query m e v)
   unfolding query
-  left-query (Found r) v = choice Left (isReadable r) (λ t. left-says Accepted (Number v (r .decimals))) (λ t. left-declines (Found r) v)
+  left-query (Found r) v = choice Left (isReadable r) (λ t. left-says Accepted (Number (withDecimals v (r .decimals)))) (λ t. left-declines (Found r) v)
   left-query Missing v = left-declines Missing v
 
   left-moves : (r : Row) (v y : ℤ) → Left (moves m r v y)
   unfolding moves
   left-moves r v y =
-      choice Left (isReadWrite r && inRange (r .least) y (r .greatest)) (λ t. left-puts y (r .decimals)) (λ t. left-declines (Found r) v)
+      choice Left (isReadWrite r && inRange (r .least) y (r .greatest)) (λ t. left-accepts y (r .decimals)) (λ t. left-declines (Found r) v)
 
   left-up : (e : Entry) (v : ℤ) → Left (up m e v)
   unfolding up
@@ -81,14 +83,13 @@ module _ (bench maker : List ℤ) (m : Message) where
   left-down (Found r) v = left-moves r v (lowered v (r .step))
   left-down Missing v = left-declines Missing v
 
-  left-set : (e : Entry) (v n : ℤ) (d : ℕ) → entryIn bench maker (m .identifier) ≡ e → m .body ≡ body.Set n d → Left (set m e v n d)
-  unfolding set offers
-  left-set (Found r) v n d f b =
-      choice Left (isWritable r && eqb d (r .decimals) && inRange (r .least) n (r .greatest))
+  left-set : (e : Entry) (v : ℤ) (x : Decimal) → entryIn bench maker (m .identifier) ≡ e → m .body ≡ body.Set x → Left (setTo m e v x)
+  unfolding setTo offers
+  left-set (Found r) v x f b =
+      choice Left (isWritable r && eqb (x .decimals) (r .decimals) && inRange (r .least) (x .number) (r .greatest))
       (λ t i z e. record {
         row = r;
-        number = n;
-        decimals = d;
+        number = x;
         type-3 = b;
         its = cc;
         found = f;
@@ -97,11 +98,11 @@ module _ (bench maker : List ℤ) (m : Message) where
         value = cc;
       })
       (λ t. left-declines (Found r) v)
-  left-set Missing v n d f b = left-declines Missing v
+  left-set Missing v x f b = left-declines Missing v
 
   left-store : (e : Entry) (o : Offer) → Left (store m e o)
   unfolding store
-  left-store e (Held j y) = choice Left (eqb j (m .identifier)) (λ t. left-puts y (decimalsOf e)) (λ t i z q. nothing q)
+  left-store e (Held j y) = choice Left (eqb j (m .identifier)) (λ t. left-accepts y (decimalsOf e)) (λ t i z q. nothing q)
   left-store e Nothing = λ i z q. nothing q
 
   left-serve : (o : Offer) (v : ℤ) (b : Body) → m .body ≡ b → Left (serve m (entryIn bench maker (m .identifier)) o v b)
@@ -110,24 +111,29 @@ module _ (bench maker : List ℤ) (m : Message) where
   left-serve o v body.Query e = left-query (entryIn bench maker (m .identifier)) v
   left-serve o v body.Up e = left-up (entryIn bench maker (m .identifier)) v
   left-serve o v body.Down e = left-down (entryIn bench maker (m .identifier)) v
-  left-serve o v (body.Set n d) e = left-set (entryIn bench maker (m .identifier)) v n d refl e
+  left-serve o v (body.Set x) e = left-set (entryIn bench maker (m .identifier)) v x refl e
   left-serve o v body.Store e = left-store (entryIn bench maker (m .identifier)) o
 
-  pub act-leaves : (letter address : ℕ) (o : Offer) (values : List ℤ) (i : ℕ) (z : ℤ) → act bench maker letter address o values m .offer ≡ Held i z → Leaves bench maker m i z
+  pub act-leaves : (c : Setup) (o : Offer) (values : List ℤ) (i : ℕ) (z : ℤ) → act bench maker c o values m .offer ≡ Held i z → Leaves bench maker m i z
   unfolding act respond
-  act-leaves letter address o values =
-      choice Left (eqb (m .letter) letter && eqb (m .address) address)
+  act-leaves c o values =
+      choice Left (isFor c m)
       (λ t. left-serve o (getD values (m .identifier) (pos 0)) (m .body) refl) (λ t i z q. nothing q)
 
 -- ---- a message for this card
 
-module _ (bench maker : List ℤ) (o : Offer) (values : List ℤ) (m : Message) where
+-- the card that has the message's letter and address
+pub own-card : (c : Setup) (m : Message) → c .letter ≡ m .letter → c .address ≡ m .address → isFor c m ≡ true
+unfolding isFor
+own-card c m p q = and-both (eq-eqb (m .letter) (c .letter) (sym p)) (eq-eqb (m .address) (c .address) (sym q))
+
+module _ (bench maker : List ℤ) (c : Setup) (o : Offer) (values : List ℤ) (m : Message) (its : isFor c m ≡ true) where
   abbrev pub answered : Effect
-  answered = act bench maker (m .letter) (m .address) o values m
+  answered = act bench maker c o values m
 
   served : (b : Body) → m .body ≡ b → answered ≡ serve m (entryIn bench maker (m .identifier)) o (getD values (m .identifier) (pos 0)) b
   unfolding act respond
-  served b e = rw (eq-eqb (m .letter) (m .letter) refl, eq-eqb (m .address) (m .address) refl, e)
+  served b e = rw (its, e)
 
   pub status-said : m .body ≡ body.Status → answered .said ≡ Reply (answerTo m Accepted Empty)
   unfolding serve says
@@ -138,20 +144,20 @@ module _ (bench maker : List ℤ) (o : Offer) (values : List ℤ) (m : Message) 
     found : (b : Body) → m .body ≡ b → answered ≡ serve m (Found r) o (getD values (m .identifier) (pos 0)) b
     found b e = served b e ∙ rw f
 
-    pub query-said : m .body ≡ body.Query → isReadable r ≡ true → answered .said ≡ Reply (answerTo m Accepted (Number (getD values (m .identifier) (pos 0)) (r .decimals)))
+    pub query-said : m .body ≡ body.Query → isReadable r ≡ true → answered .said ≡ Reply (answerTo m Accepted (Number (withDecimals (getD values (m .identifier) (pos 0)) (r .decimals))))
     unfolding serve query says
     query-said b h = ap (λ (x : Effect). x .said) (found body.Query b) ∙ rw h
 
-    pub up-refused : m .body ≡ body.Up → isReadWrite r ≡ false → isReadable r ≡ true → answered .said ≡ Reply (answerTo m Refused (Number (getD values (m .identifier) (pos 0)) (r .decimals)))
+    pub up-refused : m .body ≡ body.Up → isReadWrite r ≡ false → isReadable r ≡ true → answered .said ≡ Reply (answerTo m Declined (Number (withDecimals (getD values (m .identifier) (pos 0)) (r .decimals))))
     unfolding serve up moves declines shownBy says
     up-refused b k h = ap (λ (x : Effect). x .said) (found body.Up b) ∙ rw (k, h)
 
-    module _ (n : ℤ) (b : m .body ≡ body.Set n (r .decimals)) (w : isWritable r ≡ true) (h : inRange (r .least) n (r .greatest) ≡ true) where
+    module _ (n : ℤ) (b : m .body ≡ body.Set (withDecimals n (r .decimals))) (w : isWritable r ≡ true) (h : inRange (r .least) n (r .greatest) ≡ true) where
       taken : answered ≡ offers m r n
-      unfolding serve set
-      taken = found (body.Set n (r .decimals)) b ∙ rw (w, eq-eqb (r .decimals) (r .decimals) refl, h)
+      unfolding serve setTo
+      taken = found (body.Set (withDecimals n (r .decimals))) b ∙ rw (w, eq-eqb (r .decimals) (r .decimals) refl, h)
 
-      pub set-said : answered .said ≡ Reply (answerTo m Offered (Number (cut n (r .step)) (r .decimals)))
+      pub set-said : answered .said ≡ Reply (answerTo m Offered (Number (withDecimals (cut n (r .step)) (r .decimals))))
       unfolding offers
       set-said = ap (λ (x : Effect). x .said) taken
 

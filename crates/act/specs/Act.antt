@@ -1,11 +1,13 @@
 -- What a card does with a heard message: what it says, the offer afterwards, and what is stored. Document 01, "What the card does".
 -- e is the entry of the message's identifier in the sheets, v the value stored for it.
-use mathlib.Core.Bool.{cond, _&&_}
+use mathlib.Core.Bool.{Bool, cond, _&&_}
 use mathlib.Core.List.{List}
 use Prim.Native.Nat.{ℕ}
 use lib.Dec.{eqb}
 use lib.IntN.{ℤ, pos}
 use lib.ListN.{getD}
+use Rattle.number.specs.declared.Decimal.{Decimal}
+use Rattle.number.specs.Data.{withDecimals}
 use Rattle.number.specs.Number.{inRange, cut, raised, lowered}
 use Rattle.message.specs.declared.Body.{Body}
 use Rattle.message.specs.declared.Body.the-variants as body
@@ -15,13 +17,13 @@ use Rattle.sheet.specs.declared.Entry.{Entry}
 use Rattle.sheet.specs.declared.Entry.the-variants.{Found, Missing}
 use Rattle.sheet.specs.Values.{entryIn, isReadable, isWritable, isReadWrite}
 use Rattle.reply.specs.declared.Mark.{Mark}
-use Rattle.reply.specs.declared.Mark.the-variants.{Accepted, Offered, Refused}
+use Rattle.reply.specs.declared.Mark.the-variants.{Accepted, Offered, Declined}
 use Rattle.reply.specs.declared.Content.{Content}
 use Rattle.reply.specs.declared.Content.the-variants.{Empty, Number}
 use Rattle.reply.specs.declared.Answer.{Answer}
+use Rattle.act.specs.declared.Setup.{Setup}
 use Rattle.act.specs.declared.Offer.{Offer}
 use Rattle.act.specs.declared.Offer.the-variants.{Nothing, Held}
-use Rattle.act.specs.declared.Said.{Said}
 use Rattle.act.specs.declared.Said.the-variants.{Silence, Reply}
 use Rattle.act.specs.declared.Store.{Store}
 use Rattle.act.specs.declared.Store.the-variants.{Keep, Put}
@@ -31,6 +33,7 @@ use Rattle.act.specs.declared.Effect.{Effect}
 abbrev pub silent : Effect
 silent = record { said = Silence; offer = Nothing; store = Keep }
 
+-- an answer to this message
 abbrev pub answerTo : Message → Mark → Content → Answer
 answerTo m k x = record { letter = m .letter; address = m .address; identifier = m .identifier; mark = k; content = x }
 
@@ -39,30 +42,33 @@ unfoldable pub says : Message → Mark → Content → Effect
 says m k x = record { said = Reply (answerTo m k x); offer = Nothing; store = Keep }
 
 -- the new value and `A`, offer gone
-unfoldable pub puts : Message → ℤ → ℕ → Effect
-puts m z d = record { said = Reply (answerTo m Accepted (Number z d)); offer = Nothing; store = Put (m .identifier) z }
+unfoldable pub accepts : Message → ℤ → ℕ → Effect
+accepts m z d = record { said = Reply (answerTo m Accepted (Number (withDecimals z d))); offer = Nothing; store = Put (m .identifier) z }
 
 -- "`N` carries the stored value if the row exists and can be read, otherwise `00000`."
 unfoldable pub shownBy : Entry → ℤ → Content
-shownBy (Found r) v = cond (isReadable r) (Number v (r .decimals)) (Number (pos 0) 0)
-shownBy Missing v = Number (pos 0) 0
+shownBy (Found r) v = cond (isReadable r) (Number (withDecimals v (r .decimals))) (Number (withDecimals (pos 0) 0))
+shownBy Missing v = Number (withDecimals (pos 0) 0)
 
+-- `N`, offer gone
 unfoldable pub declines : Message → Entry → ℤ → Effect
-declines m e v = says m Refused (shownBy e v)
+declines m e v = says m Declined (shownBy e v)
 
 -- Type 2 `?`: "value and `A` if the row exists and isn't write only, otherwise `N`"
 unfoldable pub query : Message → Entry → ℤ → Effect
-query m (Found r) v = cond (isReadable r) (says m Accepted (Number v (r .decimals))) (declines m (Found r) v)
+query m (Found r) v = cond (isReadable r) (says m Accepted (Number (withDecimals v (r .decimals)))) (declines m (Found r) v)
 query m Missing v = declines m Missing v
 
 -- Type 2 `+` or `-`: "one step up or down, new value and `A`, if the row is read and write and the result is in range"
 unfoldable pub moves : Message → Row → ℤ → ℤ → Effect
-moves m r v z = cond (isReadWrite r && inRange (r .least) z (r .greatest)) (puts m z (r .decimals)) (declines m (Found r) v)
+moves m r v z = cond (isReadWrite r && inRange (r .least) z (r .greatest)) (accepts m z (r .decimals)) (declines m (Found r) v)
 
+-- `+`
 unfoldable pub up : Message → Entry → ℤ → Effect
 up m (Found r) v = moves m r v (raised v (r .step))
 up m Missing v = declines m Missing v
 
+-- `-`
 unfoldable pub down : Message → Entry → ℤ → Effect
 down m (Found r) v = moves m r v (lowered v (r .step))
 down m Missing v = declines m Missing v
@@ -70,20 +76,22 @@ down m Missing v = declines m Missing v
 -- "cut down to the nearest multiple of the step not above it; that is offered, and replied with `I`"
 unfoldable pub offers : Message → Row → ℤ → Effect
 offers m r n =
-    record { said = Reply (answerTo m Offered (Number (cut n (r .step)) (r .decimals))); offer = Held (m .identifier) (cut n (r .step)); store = Keep }
+    record { said = Reply (answerTo m Offered (Number (withDecimals (cut n (r .step)) (r .decimals)))); offer = Held (m .identifier) (cut n (r .step)); store = Keep }
 
 -- Type 3: "accepted if the row exists, isn't read only, the decimals equal the row's, and the number is in range"
-unfoldable pub set : Message → Entry → ℤ → ℤ → ℕ → Effect
-set m (Found r) v n d = cond (isWritable r && eqb d (r .decimals) && inRange (r .least) n (r .greatest)) (offers m r n) (declines m (Found r) v)
-set m Missing v n d = declines m Missing v
+unfoldable pub setTo : Message → Entry → ℤ → Decimal → Effect
+setTo m (Found r) v x =
+    cond (isWritable r && eqb (x .decimals) (r .decimals) && inRange (r .least) (x .number) (r .greatest)) (offers m r (x .number)) (declines m (Found r) v)
+setTo m Missing v x = declines m Missing v
 
+-- the decimals of a row
 abbrev pub decimalsOf : Entry → ℕ
 decimalsOf (Found r) = r .decimals
 decimalsOf Missing = 0
 
 -- Type 4: "if the offer is for this identifier, it is stored and replied with `A`. If not, silence."
 unfoldable pub store : Message → Entry → Offer → Effect
-store m e (Held i z) = cond (eqb i (m .identifier)) (puts m z (decimalsOf e)) silent
+store m e (Held i z) = cond (eqb i (m .identifier)) (accepts m z (decimalsOf e)) silent
 store m e Nothing = silent
 
 -- a message for this card, by its type; Type 1: "reply `A` with no data"
@@ -92,15 +100,18 @@ serve m e o v body.Status = says m Accepted Empty
 serve m e o v body.Query = query m e v
 serve m e o v body.Up = up m e v
 serve m e o v body.Down = down m e v
-serve m e o v (body.Set n d) = set m e v n d
+serve m e o v (body.Set x) = setTo m e v x
 serve m e o v body.Store = store m e o
+
+-- a message for this card: its letter and its address
+unfoldable pub isFor : Setup → Message → Bool
+isFor c m = eqb (m .letter) (c .letter) && eqb (m .address) (c .address)
 
 -- "A heard message with another letter or address: silence, offer gone." The entry is that of its identifier, and the value what is
 -- stored at its place.
-unfoldable pub respond : ℕ → ℕ → Offer → Entry → ℤ → Message → Effect
-respond letter address offer e v m =
-    cond (eqb (m .letter) letter && eqb (m .address) address) (serve m e offer v (m .body)) silent
+unfoldable pub respond : Setup → Offer → Entry → ℤ → Message → Effect
+respond c o e v m = cond (isFor c m) (serve m e o v (m .body)) silent
 
-unfoldable pub act : List ℤ → List ℤ → ℕ → ℕ → Offer → List ℤ → Message → Effect
-act bench maker letter address offer values m =
-    respond letter address offer (entryIn bench maker (m .identifier)) (getD values (m .identifier) (pos 0)) m
+-- under these sheets and values
+unfoldable pub act : List ℤ → List ℤ → Setup → Offer → List ℤ → Message → Effect
+act bench maker c o values m = respond c o (entryIn bench maker (m .identifier)) (getD values (m .identifier) (pos 0)) m

@@ -2,15 +2,23 @@
 ghost use mathlib.Core.Path.{_≡_};
 ghost use lib.IntN.{pos};
 ghost use lib.ListN.{getD};
+ghost use Rattle.number.specs.Data.{withDecimals};
 ghost use Rattle.sheet.specs.Values.{entryAt};
-ghost use Rattle.act.specs.Act.{silent, answerTo, says, puts, shownBy, declines, query, moves, up, down, offers, set, decimalsOf, store, serve, respond};
+ghost use Rattle.act.specs.Act.{silent, answerTo, says, accepts, shownBy, declines, query, moves, up, down, offers, setTo, decimalsOf, store, serve, isFor, respond};
 use message::Body;
 use message::Message;
+use number::Decimal;
 use reply::Answer;
 use reply::Content;
 use reply::Mark;
 use sheet::Entry;
 use sheet::Row;
+
+// What a card is set to.
+pub struct Setup {
+    pub letter: u8,
+    pub address: u8,
+}
 
 // A number that a Type 3 message left, to be stored by a Type 4.
 pub enum Offer {
@@ -72,13 +80,11 @@ fn says(message: Message, mark: Mark, content: Content) -> Effect
 }
 
 // The new value and `A`, offer gone.
-fn puts(message: Message, value: i32, decimals: u8) -> Effect
-    ensures { λ r. ⌜ r ≡ puts message value decimals ⌝ }
+fn accepts(message: Message, value: i32, decimals: u8) -> Effect
+    ensures { λ r. ⌜ r ≡ accepts message value decimals ⌝ }
 {
-    let content = Content::Number {
-        number: value,
-        decimals,
-    };
+    let number = value;
+    let content = Content::Number(Decimal { number, decimals });
     let answer = answer_to(message, Mark::Accepted, content);
     let said = Said::Reply(answer);
     let offer = Offer::Nothing;
@@ -89,33 +95,41 @@ fn puts(message: Message, value: i32, decimals: u8) -> Effect
     Effect { said, offer, store }
 }
 
+// The value with the decimals of its row.
+fn number_in(row: Row, number: i32) -> Content
+    ensures { λ r. ⌜ r ≡ Content.Number (withDecimals number (row .decimals)) ⌝ }
+{
+    let decimals = row.decimals;
+    Content::Number(Decimal { number, decimals })
+}
+
+// `00000`.
+fn no_number() -> Content
+    ensures { λ r. ⌜ r ≡ Content.Number (withDecimals (pos 0) 0) ⌝ }
+{
+    let number = 0;
+    let decimals = 0;
+    Content::Number(Decimal { number, decimals })
+}
+
 // What `N` carries.
 fn shown_by(entry: Entry, value: i32) -> Content
     ensures { λ r. ⌜ r ≡ shownBy entry value ⌝ }
 {
     let Entry::Found(row) = entry else {
-        return Content::Number {
-            number: 0,
-            decimals: 0,
-        };
+        return no_number();
     };
     if sheet::is_readable(row) {
-        Content::Number {
-            number: value,
-            decimals: row.decimals,
-        }
+        number_in(row, value)
     } else {
-        Content::Number {
-            number: 0,
-            decimals: 0,
-        }
+        no_number()
     }
 }
 
 fn declines(message: Message, entry: Entry, value: i32) -> Effect
     ensures { λ r. ⌜ r ≡ declines message entry value ⌝ }
 {
-    says(message, Mark::Refused, shown_by(entry, value))
+    says(message, Mark::Declined, shown_by(entry, value))
 }
 
 // Type 2 `?`.
@@ -126,11 +140,7 @@ fn query(message: Message, entry: Entry, value: i32) -> Effect
         return declines(message, entry, value);
     };
     if sheet::is_readable(row) {
-        let content = Content::Number {
-            number: value,
-            decimals: row.decimals,
-        };
-        says(message, Mark::Accepted, content)
+        says(message, Mark::Accepted, number_in(row, value))
     } else {
         declines(message, entry, value)
     }
@@ -141,7 +151,7 @@ fn moves(message: Message, row: Row, value: i32, next: i32) -> Effect
     ensures { λ r. ⌜ r ≡ moves message row value next ⌝ }
 {
     if sheet::is_read_write(row) & number::in_range(row.least, next, row.greatest) {
-        puts(message, next, row.decimals)
+        accepts(message, next, row.decimals)
     } else {
         declines(message, Entry::Found(row), value)
     }
@@ -172,11 +182,7 @@ fn offers(message: Message, row: Row, number: i32) -> Effect
     ensures { λ r. ⌜ r ≡ offers message row number ⌝ }
 {
     let value = number::cut(number, row.step);
-    let content = Content::Number {
-        number: value,
-        decimals: row.decimals,
-    };
-    let answer = answer_to(message, Mark::Offered, content);
+    let answer = answer_to(message, Mark::Offered, number_in(row, value));
     let said = Said::Reply(answer);
     let offer = Offer::Held {
         identifier: message.identifier,
@@ -187,17 +193,17 @@ fn offers(message: Message, row: Row, number: i32) -> Effect
 }
 
 // Type 3: the range is tested before the cut.
-fn set(message: Message, entry: Entry, value: i32, number: i32, decimals: u8) -> Effect
-    ensures { λ r. ⌜ r ≡ set message entry value number decimals ⌝ }
+fn set_to(message: Message, entry: Entry, value: i32, x: Decimal) -> Effect
+    ensures { λ r. ⌜ r ≡ setTo message entry value x ⌝ }
 {
     let Entry::Found(row) = entry else {
         return declines(message, entry, value);
     };
     if sheet::is_writable(row)
-        & (decimals == row.decimals)
-        & number::in_range(row.least, number, row.greatest)
+        & (x.decimals == row.decimals)
+        & number::in_range(row.least, x.number, row.greatest)
     {
-        offers(message, row, number)
+        offers(message, row, x.number)
     } else {
         declines(message, entry, value)
     }
@@ -220,7 +226,7 @@ fn store_offer(message: Message, entry: Entry, offer: Offer) -> Effect
         return silent();
     };
     if identifier == message.identifier {
-        puts(message, value, decimals_of(entry))
+        accepts(message, value, decimals_of(entry))
     } else {
         silent()
     }
@@ -235,7 +241,7 @@ fn serve(message: Message, entry: Entry, offer: Offer, value: i32, body: Body) -
         Body::Query => query(message, entry, value),
         Body::Up => up(message, entry, value),
         Body::Down => down(message, entry, value),
-        Body::Set { number, decimals } => set(message, entry, value, number, decimals),
+        Body::Set(x) => set_to(message, entry, value, x),
         Body::Store => store_offer(message, entry, offer),
     }
 }
@@ -248,10 +254,16 @@ fn value_at(values: &[i32], place: u8) -> i32
     if at < values.len() { values[at] } else { 0 }
 }
 
-// What a heard message leads to, at a card with this letter, address and offer. `places` is an index of the two sheets.
+// Whether the message is for a card with this setup.
+fn is_for(setup: Setup, message: Message) -> bool
+    ensures { λ r. ⌜ r ≡ isFor setup message ⌝ }
+{
+    (message.letter == setup.letter) & (message.address == setup.address)
+}
+
+// What a heard message leads to, at a card with this setup and offer. `places` is an index of the two sheets.
 pub fn act<'a>(
-    letter: u8,
-    address: u8,
+    setup: Setup,
     offer: Offer,
     bench: &'a [i32],
     maker: &'a [i32],
@@ -259,15 +271,14 @@ pub fn act<'a>(
     values: &[i32],
     message: Message,
 ) -> Effect
-    ensures { λ r. ⌜ r ≡ respond letter address offer (entryAt (now (bench .entry)) (now (maker .entry)) (now (places .entry)) (message .identifier)) (getD (now (values .entry)) (message .identifier) (pos 0)) message ⌝ }
+    ensures { λ r. ⌜ r ≡ respond setup offer (entryAt (now (bench .entry)) (now (maker .entry)) (now (places .entry)) (message .identifier)) (getD (now (values .entry)) (message .identifier) (pos 0)) message ⌝ }
 {
-    if (message.letter == letter) & (message.address == address) {
-        let identifier = message.identifier;
-        let entry = sheet::find_at(bench, maker, places, identifier);
-        let value = value_at(values, identifier);
-        let body = message.body;
-        serve(message, entry, offer, value, body)
-    } else {
-        silent()
+    if !is_for(setup, message) {
+        return silent();
     }
+    let identifier = message.identifier;
+    let entry = sheet::find_at(bench, maker, places, identifier);
+    let value = value_at(values, identifier);
+    let body = message.body;
+    serve(message, entry, offer, value, body)
 }

@@ -9,21 +9,21 @@ use borrow.Author.Tests.{le-leb}
 use lib.Dec.{leb}
 use lib.IntN.{ℤ}
 use lib.ListN.{length, length-append}
-use Rattle.wire.specs.Line.{bytesOf}
-use Rattle.wire.proofs.Lines.{empty-bytes}
 use Rattle.message.specs.declared.Message.{Message}
 use Rattle.message.specs.declared.Parsed.{Parsed}
 use Rattle.message.specs.declared.Parsed.the-variants.{Heard, Unheard}
-use Rattle.hearing.specs.declared.Pending.{Pending}
 use Rattle.hearing.specs.Hearing.{none, hear, before, heardFrom}
 use Rattle.hearing.specs.Normal.{normal}
 use Rattle.hearing.proofs.Heard.{heard-start, heard-end, heard-word, before-heard, before-unheard}
 use Rattle.hearing.proofs.Normal.{heard-normal}
+use Rattle.hearing.proofs.Quiet.{heard-closed}
+use Rattle.act.specs.declared.Setup.{Setup}
 use Rattle.act.specs.declared.Offer.{Offer}
 use Rattle.act.specs.declared.Effect.{Effect}
 use Rattle.act.specs.Act.{act}
 use Rattle.card.specs.declared.Card.{Card}
 use Rattle.card.specs.Turn.{Turn, replyOf, effectOf, turned, turn, stored, Played, stopped, after, play}
+use Rattle.card.proofs.Turns.{effects}
 
 -- what playing leaves, but for the open message
 pub record Left : Type 0 where
@@ -40,10 +40,14 @@ lead bs t = record { offer = t .offer; values = t .values; bytes = bs ++ t .byte
 module _ (bench maker : List ℤ) where
   -- ---- word by word
 
+  pub play-end : (c : Card) (values : List ℤ) (room : ℕ) → play bench maker c values room [] ≡ stopped c values
+  unfolding play
+  play-end c values room = refl
+
   pub play-word : (c : Card) (values : List ℤ) (room w : ℕ) (ws : List ℕ)
       → play bench maker c values room (w ∷ ws)
-      ≡ cond (leb (length (bytesOf (turn bench maker c values w .reply))) room)
-      (after (bytesOf (turn bench maker c values w .reply)) (play bench maker (turn bench maker c values w .card) (stored values (turn bench maker c values w .store)) (room - length (bytesOf (turn bench maker c values w .reply))) ws))
+      ≡ cond (leb (length (turn bench maker c values w .reply)) room)
+      (after (turn bench maker c values w .reply) (play bench maker (turn bench maker c values w .card) (stored values (turn bench maker c values w .store)) (room - length (turn bench maker c values w .reply)) ws))
       (stopped c values)
   unfolding play
   play-word c values room w ws = refl
@@ -53,7 +57,7 @@ module _ (bench maker : List ℤ) where
   all c values [] = stopped c values
   all c values (w ∷ ws) =
       let t : Turn = turn bench maker c values w in
-      after (bytesOf (t .reply)) (all (t .card) (stored values (t .store)) ws)
+      after (t .reply) (all (t .card) (stored values (t .store)) ws)
 
   -- all the replies, one after the other
   pub no-bytes : (c : Card) (values : List ℤ) → all c values [] .bytes ≡ []
@@ -61,7 +65,7 @@ module _ (bench maker : List ℤ) where
   no-bytes c values = refl
 
   pub more-bytes : (c : Card) (values : List ℤ) (w : ℕ) (ws : List ℕ)
-      → all c values (w ∷ ws) .bytes ≡ bytesOf (turn bench maker c values w .reply) ++ all (turn bench maker c values w .card) (stored values (turn bench maker c values w .store)) ws .bytes
+      → all c values (w ∷ ws) .bytes ≡ turn bench maker c values w .reply ++ all (turn bench maker c values w .card) (stored values (turn bench maker c values w .store)) ws .bytes
   unfolding all
   more-bytes c values w ws = refl
 
@@ -78,42 +82,39 @@ module _ (bench maker : List ℤ) where
   run-all c values room [] h = refl
   run-all c values room (w ∷ ws) h =
       let t : Turn = turn bench maker c values w in
-      let b = bytesOf (t .reply) in
+      let b = t .reply in
       let u = all (t .card) (stored values (t .store)) ws in
       let l = length-append b (u .bytes) in
       rw (le-leb (length b) room (omega arith)) (ap (after b) (run-all (t .card) (stored values (t .store)) (room - length b) ws (omega arith)))
 
   -- ---- messages in place of words
 
-  module _ (letter address : ℕ) where
-    unfoldable obey : Offer → List ℤ → List Message → Left
-    obey o values [] = record { offer = o; values = values; bytes = [] }
-    obey o values (m ∷ ms) =
-        let e : Effect = act bench maker letter address o values m in
-        lead (bytesOf (replyOf (e .said))) (obey (e .offer) (stored values (e .store)) ms)
+  unfoldable obey : Setup → Offer → List ℤ → List Message → Left
+  obey s o values [] = record { offer = o; values = values; bytes = [] }
+  obey s o values (m ∷ ms) =
+      let e : Effect = act bench maker s o values m in
+      lead (replyOf (e .said)) (obey s (e .offer) (stored values (e .store)) ms)
 
   obey-before : (c : Card) (values : List ℤ) (p : Parsed) (ms : List Message)
-      → obey (c .letter) (c .address) (c .offer) values (before p ms)
-      ≡ lead (bytesOf (replyOf (effectOf bench maker c values p .said))) (obey (c .letter) (c .address) (effectOf bench maker c values p .offer) (stored values (effectOf bench maker c values p .store)) ms)
+      → obey (c .setup) (c .offer) values (before p ms)
+      ≡ lead (replyOf (effects bench maker c values p .said)) (obey (c .setup) (effects bench maker c values p .offer) (stored values (effects bench maker c values p .store)) ms)
   unfolding obey effectOf stored
-  obey-before c values (Heard m) ms = ap (obey (c .letter) (c .address) (c .offer) values) (before-heard m ms)
-  obey-before c values Unheard ms =
-      ap (obey (c .letter) (c .address) (c .offer) values) (before-unheard ms)
-      ∙ ap (λ (b : List ℕ). lead b (obey (c .letter) (c .address) (c .offer) values ms)) (sym empty-bytes)
+  obey-before c values (Heard m) ms = ap (obey (c .setup) (c .offer) values) (before-heard m ms)
+  obey-before c values Unheard ms = ap (obey (c .setup) (c .offer) values) (before-unheard ms)
 
-  obeyed : (c : Card) (values : List ℤ) (ws : List ℕ) → leftBy (all c values ws) ≡ obey (c .letter) (c .address) (c .offer) values (heardFrom (c .pending) ws)
+  obeyed : (c : Card) (values : List ℤ) (ws : List ℕ) → leftBy (all c values ws) ≡ obey (c .setup) (c .offer) values (heardFrom (c .pending) ws)
   unfolding all obey turn turned
-  obeyed c values [] = sym (ap (obey (c .letter) (c .address) (c .offer) values) (heard-end (c .pending)))
+  obeyed c values [] = sym (ap (obey (c .setup) (c .offer) values) (heard-end (c .pending)))
   obeyed c values (w ∷ ws) =
       let t : Turn = turn bench maker c values w in
-      ap (lead (bytesOf (t .reply))) (obeyed (t .card) (stored values (t .store)) ws)
+      ap (lead (t .reply)) (obeyed (t .card) (stored values (t .store)) ws)
       ∙ sym (obey-before c values (hear (c .pending) w .message) (heardFrom (hear (c .pending) w .pending) ws))
-      ∙ ap (obey (c .letter) (c .address) (c .offer) values) (sym (heard-word (c .pending) w ws))
+      ∙ ap (obey (c .setup) (c .offer) values) (sym (heard-word (c .pending) w ws))
 
   -- a recording and its normal form, from one card with no message open
-  pub left-alike : (c : Card) (values : List ℤ) (ws : List ℕ) → c .pending ≡ none → leftBy (all c values ws) ≡ leftBy (all c values (normal ws))
+  pub left-alike : (c : Card) (values : List ℤ) (ws : List ℕ) → c .pending .len ≡ 0 → leftBy (all c values ws) ≡ leftBy (all c values (normal ws))
   left-alike c values ws e =
       let same : heardFrom none ws ≡ heardFrom none (normal ws) = sym (heard-start ws) ∙ sym (heard-normal ws) ∙ heard-start (normal ws) in
       obeyed c values ws
-      ∙ ap (obey (c .letter) (c .address) (c .offer) values) (ap (λ (p : Pending). heardFrom p ws) e ∙ same ∙ ap (λ (p : Pending). heardFrom p (normal ws)) (sym e))
+      ∙ ap (obey (c .setup) (c .offer) values) (heard-closed (c .pending) e ws ∙ same ∙ sym (heard-closed (c .pending) e (normal ws)))
       ∙ sym (obeyed c values (normal ws))

@@ -25,6 +25,7 @@ use Rattle.sheet.specs.Values.{entryIn, isWritable, soundValues}
 use Rattle.sheet.proofs.Values.{entry-sound, cut-fits, set-sound, set-elsewhere}
 use Rattle.reply.specs.declared.Answer.{Answer}
 use Rattle.reply.specs.Reply.{isAnswer}
+use Rattle.act.specs.declared.Setup.{Setup}
 use Rattle.act.specs.declared.Offer.{Offer}
 use Rattle.act.specs.declared.Offer.the-variants.{Nothing, Held}
 use Rattle.act.specs.declared.Said.the-variants.{Reply}
@@ -35,23 +36,27 @@ use Rattle.act.proofs.OnOffer.{Leaves, act-leaves}
 use Rattle.act.proofs.Effects.{Allowed, Fair, Good, good-silence, good-act}
 use Rattle.card.specs.declared.Card.{Card}
 use Rattle.card.specs.Turn.{effectOf, turn, stored}
-use Rattle.card.specs.Sound.{soundCard, offerable, soundOffer}
-use Rattle.card.proofs.Turns.{turn-card, turn-store}
+use Rattle.card.specs.Refusals.{soundSetup, soundCard, offerable, soundOffer}
+use Rattle.card.proofs.Turns.{effects, turn-card, turn-store}
 
 -- ---- a sound card
 
 pub record CardParts (c : Card) : Type 0 where
-  pub is-letter : isLetter (c .letter) ≡ true
-  pub is-address : isAddress (c .address) ≡ true
+  pub is-set : soundSetup (c .setup) ≡ true
   pub is-open : soundPending (c .pending) ≡ true
 
 pub card-parts : (c : Card) → soundCard c ≡ true → CardParts c
 unfolding soundCard
-card-parts c e = record { is-letter = search ands; is-address = search ands; is-open = search ands }
+card-parts c e = record { is-set = search ands; is-open = search ands }
 
 pub parts-card : (c : Card) → CardParts c → soundCard c ≡ true
 unfolding soundCard
-parts-card c p = and-both (and-both (p .is-letter) (p .is-address)) (p .is-open)
+parts-card c p = and-both (p .is-set) (p .is-open)
+
+-- a setup that a message's letter and address make
+pub setup-sound : (s : Setup) → isLetter (s .letter) ≡ true → isAddress (s .address) ≡ true → soundSetup s ≡ true
+unfolding soundSetup
+setup-sound s p q = and-both p q
 
 -- ---- a sound offer
 
@@ -86,15 +91,15 @@ module _ (bench maker : List ℤ) where
   leaves-sound m i z l =
       let r = l .row in
       let f : entryIn bench maker i ≡ Found r = ap (entryIn bench maker) (sym (l .its)) ∙ l .found in
-      let c = cut-fits r (entry-sound bench maker i r f) (l .number) (l .in-range) in
+      let c = cut-fits r (entry-sound bench maker i r f) (l .number .number) (l .in-range) in
       parts-offer i z (record { allowed = record { row = r; found = f; fits = rw (l .value) at c }; writable = l .writable })
 
-  act-sound : (letter address : ℕ) (o : Offer) (values : List ℤ) (m : Message) → soundOffer bench maker (act bench maker letter address o values m .offer) ≡ true
-  act-sound letter address o values m = go (act bench maker letter address o values m .offer) refl
+  act-sound : (s : Setup) (o : Offer) (values : List ℤ) (m : Message) → soundOffer bench maker (act bench maker s o values m .offer) ≡ true
+  act-sound s o values m = go (act bench maker s o values m .offer) refl
     where
-      go : (x : Offer) → act bench maker letter address o values m .offer ≡ x → soundOffer bench maker x ≡ true
+      go : (x : Offer) → act bench maker s o values m .offer ≡ x → soundOffer bench maker x ≡ true
       go Nothing e = nothing-sound bench maker
-      go (Held i z) e = leaves-sound m i z (act-leaves bench maker m letter address o values i z e)
+      go (Held i z) e = leaves-sound m i z (act-leaves bench maker m s o values i z e)
 
 -- ---- values after a store
 
@@ -121,22 +126,22 @@ module _ (bench maker values : List ℤ) where
 -- ---- a word
 
 module _ (bench maker : List ℤ) (c : Card) (values : List ℤ) (h : soundOffer bench maker (c .offer) ≡ true) where
-  effect-offer : (p : Parsed) → soundOffer bench maker (effectOf bench maker c values p .offer) ≡ true
+  effect-offer : (p : Parsed) → soundOffer bench maker (effects bench maker c values p .offer) ≡ true
   unfolding effectOf
-  effect-offer (Heard m) = act-sound bench maker (c .letter) (c .address) (c .offer) values m
+  effect-offer (Heard m) = act-sound bench maker (c .setup) (c .offer) values m
   effect-offer Unheard = h
 
   module _ (v : soundValues bench maker values ≡ true) where
-    effect-good : (p : Parsed) → Heard-is p → Good bench maker (effectOf bench maker c values p)
+    effect-good : (p : Parsed) → Heard-is p → Good bench maker (effects bench maker c values p)
     unfolding effectOf
-    effect-good (Heard m) e = good-act bench maker values v m (parts m e) (c .letter) (c .address) (c .offer) (offer-fair bench maker (c .offer) h)
+    effect-good (Heard m) e = good-act bench maker values v m (parts m e) (c .setup) (c .offer) (offer-fair bench maker (c .offer) h)
     effect-good Unheard e = good-silence bench maker (c .offer)
 
     module _ (w : ℕ) where
-      word-good : Good bench maker (effectOf bench maker c values (hear (c .pending) w .message))
+      word-good : Good bench maker (effects bench maker c values (hear (c .pending) w .message))
       word-good = effect-good (hear (c .pending) w .message) (hear-message (c .pending) w)
 
-      pub said-answer : (a : Answer) → effectOf bench maker c values (hear (c .pending) w .message) .said ≡ Reply a → isAnswer a ≡ true
+      pub said-answer : (a : Answer) → effects bench maker c values (hear (c .pending) w .message) .said ≡ Reply a → isAnswer a ≡ true
       said-answer = word-good .answers
 
       pub values-stay : soundValues bench maker (stored values (turn bench maker c values w .store)) ≡ true
@@ -151,4 +156,4 @@ module _ (bench maker : List ℤ) (c : Card) (values : List ℤ) (h : soundOffer
 pub card-stays : (bench maker : List ℤ) (c : Card) (values : List ℤ) (w : ℕ) → soundCard c ≡ true → soundCard (turn bench maker c values w .card) ≡ true
 card-stays bench maker c values w e =
     let p = card-parts c e in
-    rw (turn-card bench maker c values w) (parts-card _ (record { is-letter = p .is-letter; is-address = p .is-address; is-open = hear-sound (c .pending) w (p .is-open) }))
+    rw (turn-card bench maker c values w) (parts-card _ (record { is-set = p .is-set; is-open = hear-sound (c .pending) w (p .is-open) }))

@@ -1,105 +1,182 @@
--- The verdict and the single word's call, by the tests that led there. Assumes nothing.
+-- The tests of a call in their order, by those that led there, and what a call comes to by them. Assumes nothing.
 use mathlib.Core.Path.{_≡_, refl, sym, ap, _∙_}
 use mathlib.Core.Bool.{Bool, true, false, not, _&&_}
 use mathlib.Core.List.{List, [], _∷_}
 use Prim.Native.Nat.{ℕ, _<_, _≤_}
 use native.Mathlib.Omega.{arith}
-use borrow.Author.Tests.{lt-ltb, le-ltb}
+use borrow.Author.Tests.{lt-ltb, le-ltb, ltb-true, ltb-false}
+use lib.Dec.{ltb}
 use lib.IntN.{ℤ}
 use lib.ListN.{length}
-use Rattle.refusal.specs.Refusal.{gave}
-use Rattle.refusal.specs.Call.{laid}
+use Rattle.refusal.specs.Refusal.{Outcome, refused, gave, outcomeOf}
+use Rattle.refusal.specs.Buffer.{laid}
+use Rattle.refusal.specs.Call.{Call, callOf, placeCall}
 use Rattle.refusal.specs.declared.Refusal.{Refusal}
-use Rattle.refusal.specs.declared.Refusal.the-variants.{UnsoundCard, UnsoundSheet, UnsoundValues, WordAbove256, RoomTooShort}
+use Rattle.refusal.specs.declared.Written.{Written}
+use Rattle.refusal.specs.declared.Written.the-variants.{Wrote, Refused}
+use Rattle.refusal.specs.Check.{Check, first, decided}
 use Rattle.refusal.proofs.Logic.{and-left, and-right, by-test}
+use Rattle.refusal.proofs.Buffers.{laid-nothing}
+use Rattle.refusal.proofs.Calls.{writes-all, placed-writes}
+use Rattle.refusal.proofs.Checks.{refused-gave, first-holds, first-passes, first-none, append-refused, append-passed, by-first}
 use Rattle.wire.specs.Word.{validWords}
-use Rattle.wire.specs.Line.{longest, bytesOf}
+use Rattle.reply.specs.Reply.{longestReply}
 use Rattle.sheet.specs.Sheet.{soundSheet}
 use Rattle.sheet.specs.Values.{soundValues}
 use Rattle.card.specs.declared.Card.{Card}
-use Rattle.card.specs.declared.Verdict.{Verdict}
-use Rattle.card.specs.declared.Verdict.the-variants.{Refused, Sound}
-use Rattle.card.specs.Turn.{Turn, turn, stored, Played, play}
-use Rattle.card.specs.Sound.{soundCard, soundOffer, verdictOf}
-use Rattle.card.specs.Calls.{Step, stepRefused, stepTaken, stepBy, stepCall, Run, runBy, runCall}
+use Rattle.act.specs.declared.Effect.{Effect}
+use Rattle.card.specs.Turn.{replyOf, withBoth, turned, turn, stored, play}
+use Rattle.card.proofs.Turns.{stays, reply-length}
+use Rattle.card.specs.Refusals.{soundCard, soundOffer, cardChecks, roomCheck, stepChecks}
+use Rattle.card.specs.Calls.{After, kept, answered, stepCall, ended, runCall}
 
--- ---- the verdict
+-- a test that is passed
+passes : {b : Bool} → b ≡ true → not b ≡ false
+passes e = rw e
 
-refused-sound : {r : Refusal} → Refused r ≡ Sound → ⊥
-refused-sound e = let n : _≡_ {A = ℕ} 0 1 = cc in omega arith
+-- ---- the tests that every call on a card begins with
 
 module _ (c : Card) (bench maker values : List ℤ) (ws : List ℕ) where
-  pub card-unsound : soundCard c ≡ false → verdictOf c bench maker values ws ≡ Refused UnsoundCard
-  unfolding verdictOf
+  abbrev pub outcome : Outcome (Unit {0})
+  outcome = first (cardChecks c bench maker values ws)
+
+  pub card-unsound : soundCard c ≡ false → outcome ≡ refused 1
+  unfolding cardChecks first
   card-unsound e = rw e
 
   module _ (p : soundCard c ≡ true) where
-    pub sheet-unsound : (soundSheet bench && soundSheet maker) ≡ false → verdictOf c bench maker values ws ≡ Refused UnsoundSheet
-    unfolding verdictOf
+    pub sheet-unsound : (soundSheet bench && soundSheet maker) ≡ false → outcome ≡ refused 2
+    unfolding cardChecks first
     sheet-unsound e = rw (p, e)
 
     module _ (q : (soundSheet bench && soundSheet maker) ≡ true) where
-      pub offer-unsound : soundOffer bench maker (c .offer) ≡ false → verdictOf c bench maker values ws ≡ Refused UnsoundCard
-      unfolding verdictOf
+      pub offer-unsound : soundOffer bench maker (c .offer) ≡ false → outcome ≡ refused 1
+      unfolding cardChecks first
       offer-unsound e = rw (p, q, e)
 
       module _ (r : soundOffer bench maker (c .offer) ≡ true) where
-        pub values-unsound : soundValues bench maker values ≡ false → verdictOf c bench maker values ws ≡ Refused UnsoundValues
-        unfolding verdictOf
+        pub values-unsound : soundValues bench maker values ≡ false → outcome ≡ refused 3
+        unfolding cardChecks first
         values-unsound e = rw (p, q, r, e)
 
         module _ (s : soundValues bench maker values ≡ true) where
-          pub word-above : validWords ws ≡ false → verdictOf c bench maker values ws ≡ Refused WordAbove256
-          unfolding verdictOf
+          pub word-above : validWords ws ≡ false → outcome ≡ refused 4
+          unfolding cardChecks first
           word-above e = rw (p, q, r, s, e)
 
-          pub all-sound : validWords ws ≡ true → verdictOf c bench maker values ws ≡ Sound
-          unfolding verdictOf
+          pub all-sound : validWords ws ≡ true → outcome ≡ gave tt
+          unfolding cardChecks first
           all-sound e = rw (p, q, r, s, e)
 
-  -- a call that passed has sound sheets
-  pub sheets-sound : verdictOf c bench maker values ws ≡ Sound → (soundSheet bench ≡ true) × (soundSheet maker ≡ true)
-  sheets-sound e =
+  -- what a call that passed has
+  pub record Passes : Type 0 where
+    pub card-sound : soundCard c ≡ true
+    pub sheets-sound : (soundSheet bench && soundSheet maker) ≡ true
+    pub offer-sound : soundOffer bench maker (c .offer) ≡ true
+    pub values-sound : soundValues bench maker values ≡ true
+    pub words-valid : validWords ws ≡ true
+
+  pub passed-sound : outcome ≡ gave tt → Passes
+  passed-sound e =
       by-test (soundCard c)
       (λ p. by-test (soundSheet bench && soundSheet maker)
-      (λ q. (and-left (soundSheet bench) (soundSheet maker) q, and-right (soundSheet bench) (soundSheet maker) q))
-      (λ q. absurd (refused-sound (sym (sheet-unsound p q) ∙ e))))
-      (λ p. absurd (refused-sound (sym (card-unsound p) ∙ e)))
+      (λ q. by-test (soundOffer bench maker (c .offer))
+      (λ r. by-test (soundValues bench maker values)
+      (λ s. by-test (validWords ws)
+      (λ t. record { card-sound = p; sheets-sound = q; offer-sound = r; values-sound = s; words-valid = t })
+      (λ t. absurd (refused-gave (sym (word-above p q r s t) ∙ e))))
+      (λ s. absurd (refused-gave (sym (values-unsound p q r s) ∙ e))))
+      (λ r. absurd (refused-gave (sym (offer-unsound p q r) ∙ e))))
+      (λ q. absurd (refused-gave (sym (sheet-unsound p q) ∙ e))))
+      (λ p. absurd (refused-gave (sym (card-unsound p) ∙ e)))
+
+  pub sheets-passed : outcome ≡ gave tt → (soundSheet bench ≡ true) × (soundSheet maker ≡ true)
+  sheets-passed e =
+      let q = passed-sound e .sheets-sound in
+      (and-left (soundSheet bench) (soundSheet maker) q, and-right (soundSheet bench) (soundSheet maker) q)
+
+-- ---- room for a single word's reply
+
+pub room-short : (out : List ℕ) → length out < longestReply → first (roomCheck out ∷ []) ≡ refused 5
+room-short out h = first-holds (roomCheck out) [] (lt-ltb (length out) longestReply h)
+
+pub room-enough : (out : List ℕ) → longestReply ≤ length out → first (roomCheck out ∷ []) ≡ gave tt
+room-enough out h = first-passes (roomCheck out) [] (le-ltb (length out) longestReply h) ∙ first-none
 
 -- ---- the calls
 
-pub step-short : (t : Turn) (c : Card) (values : List ℤ) (out : List ℕ) → length out < longest → stepBy Sound t c values out ≡ stepRefused RoomTooShort c values out
-unfolding stepBy
-step-short t c values out h = rw (lt-ltb (length out) longest h)
-
-pub step-long : (t : Turn) (c : Card) (values : List ℤ) (out : List ℕ) → longest ≤ length out → stepBy Sound t c values out ≡ stepTaken t values out
-unfolding stepBy
-step-long t c values out h = rw (le-ltb (length out) longest h)
-
--- all that a word or a run leaves, where it is served
-pub step-leaves : (t : Turn) (values : List ℤ) (out : List ℕ)
-    → stepTaken t values out ≡ record { card = t .card; outcome = gave (length (bytesOf (t .reply))); values = stored values (t .store); buffer = laid (bytesOf (t .reply)) out }
-step-leaves t values out = refl
-
-pub run-leaves : (p : Played) (c : Card) (values : List ℤ) (out : List ℕ)
-    → runBy Sound p c values out ≡ record { card = p .card; outcome = gave (record { words = p .taken; bytes = length (p .bytes) }); values = p .values; buffer = laid (p .bytes) out }
-unfolding runBy
-run-leaves p c values out = refl
-
 module _ (c : Card) (bench maker values : List ℤ) (w : ℕ) (out : List ℕ) where
-  pub step-refused : (r : Refusal) → verdictOf c bench maker values (w ∷ []) ≡ Refused r → stepCall c bench maker values w out ≡ stepRefused r c values out
-  unfolding stepCall stepBy
-  step-refused r e = rw e
+  abbrev checks : List Check
+  checks = cardChecks c bench maker values (w ∷ [])
 
-  pub step-served : verdictOf c bench maker values (w ∷ []) ≡ Sound → stepCall c bench maker values w out ≡ stepBy Sound (turn bench maker c values w) c values out
+  -- by the first of its tests that holds
+  pub step-is : stepCall c bench maker values w out ≡ decided (first (stepChecks c bench maker values w out)) (kept c values out) (answered (turn bench maker c values w) values out)
   unfolding stepCall
-  step-served e = rw e
+  step-is = refl
+
+  pub step-refused : (n : ℕ) → first checks ≡ refused n → stepCall c bench maker values w out ≡ kept c values out n
+  unfolding stepCall stepChecks
+  step-refused n e = rw (append-refused checks (roomCheck out ∷ []) n e)
+
+  pub step-passed : first checks ≡ gave tt → stepCall c bench maker values w out ≡ decided (first (roomCheck out ∷ [])) (kept c values out) (answered (turn bench maker c values w) values out)
+  unfolding stepCall stepChecks
+  step-passed e = rw (append-passed checks (roomCheck out ∷ []) e)
+
+  -- it is served exactly where its tests are passed and there is room
+  pub step-served : first checks ≡ gave tt → longestReply ≤ length out → stepCall c bench maker values w out ≡ answered (turn bench maker c values w) values out
+  step-served e h = step-passed e ∙ rw (room-enough out h)
+
+  pub record StepServed (n : ℕ) : Type 0 where
+    pub passed : first checks ≡ gave tt
+    pub room : longestReply ≤ length out
+    pub leaves : stepCall c bench maker values w out ≡ answered (turn bench maker c values w) values out
+
+  pub served-step : (n : ℕ) → stepCall c bench maker values w out .outcome ≡ gave n → StepServed n
+  served-step n e =
+      by-first checks
+      (λ k r. absurd (refused-gave (sym (ap (λ (s : After ℕ). s .outcome) (step-refused k r)) ∙ e)))
+      (λ p.
+      by-test (ltb (length out) longestReply)
+      (λ t.
+      let s : stepCall c bench maker values w out ≡ kept c values out 5 = step-passed p ∙ rw (room-short out (ltb-true _ _ t)) in
+      absurd (refused-gave (sym (ap (λ (s : After ℕ). s .outcome) s) ∙ e)))
+      (λ t. let h = ltb-false _ _ t in record { passed = p; room = h; leaves = step-served p h }))
 
 module _ (c : Card) (bench maker values : List ℤ) (ws out : List ℕ) where
-  pub run-refused : (r : Refusal) → verdictOf c bench maker values ws ≡ Refused r → runCall c bench maker values ws out ≡ runBy (Refused r) (play bench maker c values (length out) ws) c values out
+  pub run-is : runCall c bench maker values ws out ≡ decided (first (cardChecks c bench maker values ws)) (kept c values out) (ended (play bench maker c values (length out) ws) out)
   unfolding runCall
-  run-refused r e = rw e
+  run-is = refl
 
-  pub run-served : verdictOf c bench maker values ws ≡ Sound → runCall c bench maker values ws out ≡ runBy Sound (play bench maker c values (length out) ws) c values out
+  pub run-refused : (n : ℕ) → first (cardChecks c bench maker values ws) ≡ refused n → runCall c bench maker values ws out ≡ kept c values out n
+  unfolding runCall
+  run-refused n e = rw e
+
+  pub run-served : first (cardChecks c bench maker values ws) ≡ gave tt → runCall c bench maker values ws out ≡ ended (play bench maker c values (length out) ws) out
   unfolding runCall
   run-served e = rw e
+
+-- ---- what a word that is served leaves, as the code has it
+
+-- a word that has closed no heard message
+pub quiet-answered : (c : Card) (values : List ℤ) (out : List ℕ) → record { card = c; outcome = gave 0; values = values; buffer = out } ≡ answered (stays c) values out
+unfolding stored
+quiet-answered c values out = λ j. record { card = c; outcome = gave 0; values = values; buffer = sym (laid-nothing out) j }
+
+module _ (c : Card) (e : Effect) (values : List ℤ) (out : List ℕ) (h : longestReply ≤ length out) where
+  -- there is room for what is said
+  said-whole : {s : Call} → s ≡ placeCall (replyOf (e .said)) 0 out → s ≡ record { outcome = gave (length (replyOf (e .said))); buffer = laid (replyOf (e .said)) out }
+  said-whole p =
+      let n = reply-length (e .said) in
+      p ∙ placed-writes (replyOf (e .said)) out ∙ writes-all (replyOf (e .said)) out [] first-none (omega arith)
+
+  pub said-always : {r : Written} {out′ : List ℕ} (f : Refusal) → callOf r out′ ≡ placeCall (replyOf (e .said)) 0 out → r ≡ Refused f → ⊥
+  said-always f p q = refused-gave (sym (ap outcomeOf q) ∙ ap (λ (s : Call). s .outcome) (said-whole p))
+
+  pub answered-is : (c′ : Card) {r : Written} (v′ : List ℤ) (out′ : List ℕ) (n : ℕ) → c′ ≡ withBoth c (c .pending) (e .offer) → v′ ≡ stored values (e .store)
+      → callOf r out′ ≡ placeCall (replyOf (e .said)) 0 out → r ≡ Wrote n → record { card = c′; outcome = gave n; values = v′; buffer = out′ } ≡ answered (turned c (c .pending) e) values out
+  unfolding turned
+  answered-is c′ v′ out′ n ec ev p q =
+      let w = said-whole p in
+      let o : gave n ≡ gave (length (replyOf (e .said))) = sym (ap outcomeOf q) ∙ ap (λ (s : Call). s .outcome) w in
+      let b = ap (λ (s : Call). s .buffer) w in
+      λ j. record { card = ec j; outcome = o j; values = ev j; buffer = b j }

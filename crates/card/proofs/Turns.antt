@@ -1,93 +1,132 @@
--- One word, by what it has closed: the laws that the code of a run cites. Assumes nothing.
+-- One word, by what it does and by what it has closed: the laws that the code of a word and of a run cites. Assumes nothing.
 use mathlib.Core.Path.{_≡_, refl, sym, ap, _∙_, subst}
-use mathlib.Core.List.{List}
+use mathlib.Core.Bool.{true}
+use mathlib.Core.List.{List, []}
 use Prim.Native.Nat.{ℕ, _≤_}
 use lib.Dec.{lit≤}
-use mathlib.Core.Bool.{true}
 use lib.IntN.{ℤ, pos}
 use lib.ListN.{length, getD}
-use Rattle.wire.specs.Line.{longest, bytesOf}
 use Rattle.wire.specs.Word.{travelling}
 use Rattle.wire.proofs.Words.{travelling-length}
-use Rattle.wire.proofs.Lines.{empty-bytes, line-bytes}
 use Rattle.sheet.specs.declared.Entry.{Entry}
 use Rattle.sheet.specs.Sheet.{soundSheet}
 use Rattle.sheet.specs.Lookup.{indexOf}
 use Rattle.sheet.specs.Values.{entryAt}
 use Rattle.sheet.proofs.Marks.{index-entry}
 use Rattle.reply.specs.declared.Answer.{Answer}
-use Rattle.reply.specs.Reply.{spellAnswer}
+use Rattle.reply.specs.Reply.{longestReply, spellAnswer}
 use Rattle.reply.proofs.Spelled.{answer-length}
 use Rattle.message.specs.declared.Parsed.{Parsed}
 use Rattle.message.specs.declared.Parsed.the-variants.{Heard, Unheard}
 use Rattle.message.specs.declared.Message.{Message}
+use Rattle.message.specs.Prefix.{parse}
+use Rattle.hearing.specs.declared.Action.{Action}
+use Rattle.hearing.specs.declared.Action.the-variants.{Ignore, Open, Add, Close, Drop}
 use Rattle.hearing.specs.declared.Hearing.{Hearing}
-use Rattle.hearing.specs.Hearing.{none, hear}
+use Rattle.hearing.specs.Hearing.{none, added, openOf, actionOf, perform, hear}
+use Rattle.act.specs.declared.Setup.{Setup}
+use Rattle.act.specs.declared.Offer.{Offer}
 use Rattle.act.specs.declared.Said.{Said}
 use Rattle.act.specs.declared.Said.the-variants.{Silence, Reply}
 use Rattle.act.specs.declared.Effect.{Effect}
 use Rattle.act.specs.declared.Store.the-variants.{Keep}
 use Rattle.act.specs.Act.{respond, act}
 use Rattle.card.specs.declared.Card.{Card}
-use Rattle.card.specs.Turn.{Turn, replyOf, effectOf, withBoth, turned, stays, turn}
+use Rattle.card.specs.Turn.{Turn, replyOf, effectOf, withBoth, turned, turn}
+
+-- a word that has closed no heard message
+abbrev pub stays : Card → Turn
+stays c = record { card = c; reply = []; store = Keep }
 
 -- document 01: "No reply is longer than 11 bytes."
-pub reply-length : (s : Said) → length (bytesOf (replyOf s)) ≤ longest
-reply-length Silence = rw empty-bytes (lit≤ tt)
-reply-length (Reply a) = subst (λ (n : ℕ). n ≤ longest) (sym (ap length (line-bytes (spellAnswer a)) ∙ travelling-length (spellAnswer a))) (answer-length a)
+pub reply-length : (s : Said) → length (replyOf s) ≤ longestReply
+reply-length Silence = lit≤ tt
+reply-length (Reply a) = subst (λ (n : ℕ). n ≤ longestReply) (sym (travelling-length (spellAnswer a))) (answer-length a)
 
-module _ (bench maker : List ℤ) (c : Card) (values : List ℤ) where
-  -- what a word leaves, by what it has closed
-  module _ (w : ℕ) where
-    pub turn-card : turn bench maker c values w .card ≡ withBoth c (hear (c .pending) w .pending) (effectOf bench maker c values (hear (c .pending) w .message) .offer)
-    unfolding turn turned
-    turn-card = refl
+module _ (bench maker : List ℤ) where
+  -- ---- what a closed message leads to
 
-    turn-reply : turn bench maker c values w .reply ≡ replyOf (effectOf bench maker c values (hear (c .pending) w .message) .said)
-    unfolding turn turned
-    turn-reply = refl
+  module _ (s : Setup) (o : Offer) (values : List ℤ) where
+    -- a message that was heard is acted on
+    pub effect-heard : (m : Message) → effectOf bench maker s o values (Heard m) ≡ act bench maker s o values m
+    unfolding effectOf
+    effect-heard m = refl
 
-    pub turn-store : turn bench maker c values w .store ≡ effectOf bench maker c values (hear (c .pending) w .message) .store
-    unfolding turn turned
-    turn-store = refl
+    pub effect-unheard : record { said = Silence; offer = o; store = Keep } ≡ effectOf bench maker s o values Unheard
+    unfolding effectOf
+    effect-unheard = refl
 
-    -- a reply is the spelling of what is said
-    pub turn-spells : (a : Answer) → effectOf bench maker c values (hear (c .pending) w .message) .said ≡ Reply a → bytesOf (turn bench maker c values w .reply) ≡ travelling (spellAnswer a)
-    turn-spells a e = ap bytesOf (turn-reply ∙ ap replyOf e) ∙ line-bytes (spellAnswer a)
+    -- under sound sheets the index gives the entry
+    pub effect-index : (places : List ℕ) (m : Message) → soundSheet bench ≡ true → soundSheet maker ≡ true → places ≡ indexOf bench maker
+        → respond s o (entryAt bench maker places (m .identifier)) (getD values (m .identifier) (pos 0)) m ≡ effectOf bench maker s o values (Heard m)
+    unfolding effectOf act
+    effect-index places m b k e =
+        ap (λ (x : Entry). respond s o x (getD values (m .identifier) (pos 0)) m)
+        (ap (λ (l : List ℕ). entryAt bench maker l (m .identifier)) e ∙ index-entry bench maker (m .identifier) b k)
 
-    pub turn-length : length (bytesOf (turn bench maker c values w .reply)) ≤ longest
-    turn-length = rw turn-reply (reply-length (effectOf bench maker c values (hear (c .pending) w .message) .said))
+  -- ---- a word
 
-  -- a message that was heard is acted on
-  pub effect-heard : (m : Message) → effectOf bench maker c values (Heard m) ≡ act bench maker (c .letter) (c .address) (c .offer) values m
-  unfolding effectOf
-  effect-heard m = refl
+  module _ (c : Card) (values : List ℤ) where
+    -- what was closed leads to
+    abbrev pub effects : Parsed → Effect
+    effects = effectOf bench maker (c .setup) (c .offer) values
 
-  -- what was closed
-  pub effect-unheard : record { said = Silence; offer = c .offer; store = Keep } ≡ effectOf bench maker c values Unheard
-  unfolding effectOf
-  effect-unheard = refl
+    module _ (w : ℕ) where
+      pub turn-card : turn bench maker c values w .card ≡ withBoth c (hear (c .pending) w .pending) (effects (hear (c .pending) w .message) .offer)
+      unfolding turn turned
+      turn-card = refl
 
-  -- under sound sheets the index gives the entry
-  pub effect-index : (places : List ℕ) (m : Message) → soundSheet bench ≡ true → soundSheet maker ≡ true → places ≡ indexOf bench maker
-      → respond (c .letter) (c .address) (c .offer) (entryAt bench maker places (m .identifier)) (getD values (m .identifier) (pos 0)) m ≡ effectOf bench maker c values (Heard m)
-  unfolding effectOf act
-  effect-index places m b k e =
-      ap (λ (x : Entry). respond (c .letter) (c .address) (c .offer) x (getD values (m .identifier) (pos 0)) m)
-      (ap (λ (l : List ℕ). entryAt bench maker l (m .identifier)) e ∙ index-entry bench maker (m .identifier) b k)
+      turn-reply : turn bench maker c values w .reply ≡ replyOf (effects (hear (c .pending) w .message) .said)
+      unfolding turn turned
+      turn-reply = refl
 
-  -- the open message is not looked at
-  pub effect-open : (o : Parsed) → effectOf bench maker (withBoth c none (c .offer)) values o ≡ effectOf bench maker c values o
-  unfolding effectOf
-  effect-open (Heard m) = refl
-  effect-open Unheard = refl
+      pub turn-store : turn bench maker c values w .store ≡ effects (hear (c .pending) w .message) .store
+      unfolding turn turned
+      turn-store = refl
 
-  -- a word that closes no heard message
-  pub turn-unheard : (w : ℕ) → hear (c .pending) w .message ≡ Unheard → turn bench maker c values w ≡ stays (withBoth c (hear (c .pending) w .pending) (c .offer))
-  unfolding turn turned effectOf
-  turn-unheard w e = ap (λ (o : Parsed). turned c (hear (c .pending) w .pending) (effectOf bench maker c values o)) e
+      -- a reply is the spelling of what is said
+      pub turn-spells : (a : Answer) → effects (hear (c .pending) w .message) .said ≡ Reply a → turn bench maker c values w .reply ≡ travelling (spellAnswer a)
+      turn-spells a e = turn-reply ∙ ap replyOf e
 
-  -- a word that closes one
-  pub turn-closes : (w : ℕ) (o : Parsed) → hear (c .pending) w ≡ record { pending = none; message = o } → turn bench maker c values w ≡ turned c none (effectOf bench maker c values o)
-  unfolding turn
-  turn-closes w o e = ap (λ (h : Hearing). turned c (h .pending) (effectOf bench maker c values (h .message))) e
+      pub turn-silent : effects (hear (c .pending) w .message) .said ≡ Silence → turn bench maker c values w .reply ≡ []
+      turn-silent e = turn-reply ∙ ap replyOf e
+
+      pub turn-length : length (turn bench maker c values w .reply) ≤ longestReply
+      turn-length = rw turn-reply (reply-length (effects (hear (c .pending) w .message) .said))
+
+    -- a word that closes no heard message
+    pub turn-unheard : (w : ℕ) → hear (c .pending) w .message ≡ Unheard → turn bench maker c values w ≡ stays (withBoth c (hear (c .pending) w .pending) (c .offer))
+    unfolding turn turned effectOf
+    turn-unheard w e = ap (λ (o : Parsed). turned c (hear (c .pending) w .pending) (effects o)) e
+
+    -- a word that closes one
+    pub turn-closes : (w : ℕ) (o : Parsed) → hear (c .pending) w ≡ record { pending = none; message = o } → turn bench maker c values w ≡ turned c none (effects o)
+    unfolding turn
+    turn-closes w o e = ap (λ (h : Hearing). turned c (h .pending) (effects (h .message))) e
+
+    -- ---- a word by what it does
+
+    module _ (w : ℕ) where
+      did : (a : Action) → actionOf (c .pending) w ≡ a → turn bench maker c values w ≡ turned c (perform (c .pending) a .pending) (effects (perform (c .pending) a .message))
+      unfolding turn hear
+      did a e = ap (λ (x : Action). turned c (perform (c .pending) x .pending) (effects (perform (c .pending) x .message))) e
+
+      pub turn-ignore : actionOf (c .pending) w ≡ Ignore → turn bench maker c values w ≡ stays c
+      unfolding turned effectOf perform
+      turn-ignore e = did Ignore e
+
+      pub turn-open : (x : ℕ) → actionOf (c .pending) w ≡ Open x → turn bench maker c values w ≡ stays (withBoth c (added none x) (c .offer))
+      unfolding turned effectOf perform
+      turn-open x e = did (Open x) e
+
+      pub turn-add : (x : ℕ) → actionOf (c .pending) w ≡ Add x → turn bench maker c values w ≡ stays (withBoth c (added (c .pending) x) (c .offer))
+      unfolding turned effectOf perform
+      turn-add x e = did (Add x) e
+
+      pub turn-close : actionOf (c .pending) w ≡ Close → turn bench maker c values w ≡ turned c none (effects (parse (openOf (c .pending))))
+      unfolding perform
+      turn-close e = did Close e
+
+      pub turn-drop : actionOf (c .pending) w ≡ Drop → turn bench maker c values w ≡ stays (withBoth c none (c .offer))
+      unfolding turned effectOf perform
+      turn-drop e = did Drop e

@@ -1,3 +1,3 @@
 pub mod Turn
-pub mod Sound
+pub mod Refusals
 pub mod Calls

@@ -5,13 +5,13 @@ use Prim.Native.Nat.{ℕ, suc, _-_}
 use lib.Dec.{leb}
 use lib.IntN.{ℤ}
 use lib.ListN.{length, set}
-use Rattle.wire.specs.declared.Line.{Line}
-use Rattle.wire.specs.Line.{empty, lineOf, bytesOf}
+use Rattle.wire.specs.Word.{travelling}
 use Rattle.message.specs.declared.Parsed.{Parsed}
 use Rattle.message.specs.declared.Parsed.the-variants.{Heard, Unheard}
 use Rattle.hearing.specs.declared.Pending.{Pending}
 use Rattle.hearing.specs.Hearing.{hear}
 use Rattle.reply.specs.Reply.{spellAnswer}
+use Rattle.act.specs.declared.Setup.{Setup}
 use Rattle.act.specs.declared.Offer.{Offer}
 use Rattle.card.specs.declared.Card.{Card}
 use Rattle.act.specs.declared.Said.{Said}
@@ -23,37 +23,35 @@ use Rattle.act.specs.Act.{act}
 
 -- ---- one word
 
--- what a word leads to: the card afterwards, the reply, and what is stored
+-- what a word leads to: the card afterwards, the reply's bytes, and what is stored
 pub record Turn : Type 0 where
   pub card : Card
-  pub reply : Line
+  pub reply : List ℕ
   pub store : Store
 
--- the reply as it travels; none is silence
-abbrev pub replyOf : Said → Line
-replyOf Silence = empty
-replyOf (Reply a) = lineOf (spellAnswer a)
+-- the reply as it travels; silence has no bytes
+abbrev pub replyOf : Said → List ℕ
+replyOf Silence = []
+replyOf (Reply a) = travelling (spellAnswer a)
 
 -- document 01: "Anything not well formed is unheard: no answer, no effect"
-unfoldable pub effectOf : List ℤ → List ℤ → Card → List ℤ → Parsed → Effect
-effectOf bench maker c values (Heard m) = act bench maker (c .letter) (c .address) (c .offer) values m
-effectOf bench maker c values Unheard = record { said = Silence; offer = c .offer; store = Keep }
+unfoldable pub effectOf : List ℤ → List ℤ → Setup → Offer → List ℤ → Parsed → Effect
+effectOf bench maker s o values (Heard m) = act bench maker s o values m
+effectOf bench maker s o values Unheard = record { said = Silence; offer = o; store = Keep }
 
+-- the card with another open message and offer
 abbrev pub withBoth : Card → Pending → Offer → Card
-withBoth c p o = record { letter = c .letter; address = c .address; pending = p; offer = o }
+withBoth c p o = record { setup = c .setup; pending = p; offer = o }
 
 unfoldable pub turned : Card → Pending → Effect → Turn
 turned c p e = record { card = withBoth c p (e .offer); reply = replyOf (e .said); store = e .store }
 
--- a word that has closed no heard message
-abbrev pub stays : Card → Turn
-stays c = record { card = c; reply = empty; store = Keep }
-
 -- the card after a word, its reply, and what is stored: the word is heard, and what it has closed is acted on
 unfoldable pub turn : List ℤ → List ℤ → Card → List ℤ → ℕ → Turn
 turn bench maker c values w =
-    turned c (hear (c .pending) w .pending) (effectOf bench maker c values (hear (c .pending) w .message))
+    turned c (hear (c .pending) w .pending) (effectOf bench maker (c .setup) (c .offer) values (hear (c .pending) w .message))
 
+-- the values after a store
 unfoldable pub stored : List ℤ → Store → List ℤ
 stored values Keep = values
 stored values (Put i z) = set values i z
@@ -67,6 +65,7 @@ pub record Played : Type 0 where
   pub bytes : List ℕ
   pub taken : ℕ
 
+-- no word is taken
 abbrev pub stopped : Card → List ℤ → Played
 stopped c values = record { card = c; values = values; bytes = []; taken = 0 }
 
@@ -79,6 +78,4 @@ unfoldable pub play : List ℤ → List ℤ → Card → List ℤ → ℕ → Li
 play bench maker c values room [] = stopped c values
 play bench maker c values room (w ∷ ws) =
     let t : Turn = turn bench maker c values w in
-    cond (leb (length (bytesOf (t .reply))) room)
-    (after (bytesOf (t .reply)) (play bench maker (t .card) (stored values (t .store)) (room - length (bytesOf (t .reply))) ws))
-    (stopped c values)
+    cond (leb (length (t .reply)) room) (after (t .reply) (play bench maker (t .card) (stored values (t .store)) (room - length (t .reply)) ws)) (stopped c values)

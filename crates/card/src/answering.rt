@@ -1,32 +1,33 @@
-// What words lead to: a message is decided, then said, then done.
+// What a closed message leads to, decided, then said, then done; and the words of a run.
 ghost use mathlib.Core.Path.{_≡_};
 ghost use mathlib.Core.Bool.{true};
 ghost use lib.ListN.{length};
 ghost use Prim.Native.Nat.{_≤_};
-ghost use Rattle.refusal.specs.Refusal.{outcomeOf as writtenOf};
-ghost use Rattle.wire.specs.Line.{bytesOf, placeCall};
+ghost use Rattle.refusal.specs.Call.{callOf, placeCall};
+ghost use Rattle.reply.specs.Reply.{longestReply};
 ghost use Rattle.sheet.specs.Sheet.{soundSheet};
 ghost use Rattle.sheet.specs.Lookup.{indexOf};
-ghost use Rattle.hearing.specs.Hearing.{none};
-ghost use Rattle.card.specs.Turn.{replyOf, effectOf, stored, play};
-ghost use Rattle.card.specs.Calls.{Ends};
+ghost use Rattle.card.specs.Turn.{replyOf, effectOf, turned, stored, play};
+ghost use Rattle.card.specs.Calls.{stepAfter, answered, runAfter, ended};
 use crate::Card;
 use crate::Ran;
-use crate::Taken;
+use crate::RunAnswer;
+use crate::StepAnswer;
+use crate::Stepped;
 use act::Effect;
 use act::Offer;
 use act::Said;
+use act::Setup;
 use act::Store;
+use hearing::Halt;
 use hearing::Pending;
-use hearing::Stop;
 use message::Parsed;
 use refusal::Written;
 
 // What is said into the buffer from a place on; silence is nothing.
 fn say(said: Said, out: &mut [u8], at: usize) -> Written
     requires { ⌜ at ≤ length (now out) ⌝ }
-    ensures answers { λ r. ⌜ writtenOf r ≡ placeCall (bytesOf (replyOf said)) at (now (out .entry)) .outcome ⌝ }
-    ensures leaves { λ r. ⌜ now (out .exit) ≡ placeCall (bytesOf (replyOf said)) at (now (out .entry)) .buffer ⌝ }
+    ensures { λ r. ⌜ callOf r (now (out .exit)) ≡ placeCall (replyOf said) at (now (out .entry)) ⌝ }
 {
     let Said::Reply(answer) = said else {
         return Written::Wrote(0);
@@ -34,10 +35,9 @@ fn say(said: Said, out: &mut [u8], at: usize) -> Written
     reply::place(answer, out, at)
 }
 
-// What a closed message leads to, at a card with this letter, address and offer. `places` is the index of the two sheets.
+// What a closed message leads to, at a card with this setup and offer. `places` is the index of the two sheets.
 fn effect_of<'a>(
-    letter: u8,
-    address: u8,
+    setup: Setup,
     offer: Offer,
     bench: &'a [i32],
     maker: &'a [i32],
@@ -46,23 +46,14 @@ fn effect_of<'a>(
     parsed: Parsed,
 ) -> Effect
     requires { ⌜ (soundSheet (now bench) ≡ true) × (soundSheet (now maker) ≡ true) × (now places ≡ indexOf (now bench) (now maker)) ⌝ }
-    ensures { λ r. ⌜ r ≡ effectOf (now (bench .entry)) (now (maker .entry)) (record { letter = letter; address = address; pending = none; offer = offer }) (now (values .entry)) parsed ⌝ }
+    ensures { λ r. ⌜ r ≡ effectOf (now (bench .entry)) (now (maker .entry)) setup offer (now (values .entry)) parsed ⌝ }
 {
     let Parsed::Heard(message) = parsed else {
         let said = Said::Silence;
         let store = Store::Keep;
         return Effect { said, offer, store };
     };
-    act::act(
-        letter,
-        address,
-        offer,
-        bench,
-        maker,
-        places,
-        values,
-        message,
-    )
+    act::act(setup, offer, bench, maker, places, values, message)
 }
 
 // The one write to the values.
@@ -78,35 +69,60 @@ fn keep(values: &mut [i32], store: Store)
     }
 }
 
+// A card whose message was closed, and what that message leads to. There is room for any reply.
+pub(crate) fn answer<'a>(
+    card: Card,
+    bench: &'a [i32],
+    maker: &'a [i32],
+    values: &mut [i32],
+    parsed: Parsed,
+    out: &mut [u8],
+) -> Stepped
+    requires { ⌜ (soundSheet (now bench) ≡ true) × (soundSheet (now maker) ≡ true) × (longestReply ≤ length (now out)) ⌝ }
+    ensures { λ r. ⌜ stepAfter r (now (values .exit)) (now (out .exit)) ≡ answered (turned card (card .pending) (effectOf (now (bench .entry)) (now (maker .entry)) (card .setup) (card .offer) (now (values .entry)) parsed)) (now (values .entry)) (now (out .entry)) ⌝ }
+{
+    let setup = card.setup;
+    let held = card.offer;
+    let places = sheet::index(bench, maker);
+    let effect = effect_of(setup, held, bench, maker, &places, values, parsed);
+    let store = effect.store;
+    keep(values, store);
+    let said = effect.said;
+    let offer = effect.offer;
+    let card = card.hold(offer);
+    match say(said, out, 0) {
+        Written::Refused(refusal) => {
+            let answer = StepAnswer::Refused(refusal);
+            Stepped { card, answer }
+        }
+        Written::Wrote(n) => {
+            let answer = StepAnswer::Replied(n);
+            Stepped { card, answer }
+        }
+    }
+}
+
 // Where a run has come.
-fn so_far(
-    letter: u8,
-    address: u8,
-    offer: Offer,
-    chars: [u8; hearing::MOST],
-    stop: Stop,
-    bytes: usize,
-) -> Ran
-    ensures { λ r. ⌜ r ≡ record { card = record { letter = letter; address = address; pending = record { chars = chars; len = stop .len }; offer = offer }; answer = Taken.Took (stop .at) bytes } ⌝ }
+fn so_far(setup: Setup, offer: Offer, chars: [u8; hearing::MOST], halt: Halt, bytes: usize) -> Ran
+    ensures { λ r. ⌜ r ≡ record { card = record { setup = setup; pending = record { chars = chars; len = halt .len }; offer = offer }; answer = RunAnswer.Took (halt .at) bytes } ⌝ }
 {
     let pending = Pending {
         chars,
-        len: stop.len,
+        len: halt.len,
     };
     let card = Card {
-        letter,
-        address,
+        setup,
         pending,
         offer,
     };
-    let answer = Taken::Took {
-        words: stop.at,
+    let answer = RunAnswer::Took {
+        words: halt.at,
         bytes,
     };
     Ran { card, answer }
 }
 
-// The words of a call that passed. They are taken up to one that closes a message, and that one is answered. The sheets are indexed
+// The words of a run that passed. They are taken up to one that closes a message, and that one is answered. The sheets are indexed
 // once, where there is such a word.
 pub(crate) fn take_all<'a>(
     card: Card,
@@ -117,40 +133,38 @@ pub(crate) fn take_all<'a>(
     out: &mut [u8],
 ) -> Ran
     requires { ⌜ (soundSheet (now bench) ≡ true) × (soundSheet (now maker) ≡ true) ⌝ }
-    ensures { λ r. ⌜ Ends (play (now (bench .entry)) (now (maker .entry)) card (now (values .entry)) (length (now (out .entry))) (now (words .entry))) (now (out .entry)) r (now (values .exit)) (now (out .exit)) ⌝ }
+    ensures { λ r. ⌜ runAfter r (now (values .exit)) (now (out .exit)) ≡ ended (play (now (bench .entry)) (now (maker .entry)) card (now (values .entry)) (length (now (out .entry))) (now (words .entry))) (now (out .entry)) ⌝ }
 {
-    let letter = card.letter;
-    let address = card.address;
+    let setup = card.setup;
     let mut offer = card.offer;
     let pending = card.pending;
     let mut chars = pending.chars;
-    let mut stop = hearing::to_close(&mut chars, pending.len, words, 0);
-    if words.len() <= stop.at {
-        return so_far(letter, address, offer, chars, stop, 0);
+    let mut halt = hearing::to_close(&mut chars, pending.len, words, 0);
+    if words.len() <= halt.at {
+        return so_far(setup, offer, chars, halt, 0);
     }
     let places = sheet::index(bench, maker);
     let mut at = 0;
-    while stop.at < words.len() {
+    while halt.at < words.len() {
         let effect = effect_of(
-            letter,
-            address,
+            setup,
             offer,
             bench,
             maker,
             &places,
             values,
-            hearing::closed(&chars, stop.len),
+            hearing::closed(&chars, halt.len),
         );
         let said = effect.said;
         let Written::Wrote(n) = say(said, out, at) else {
-            return so_far(letter, address, offer, chars, stop, at);
+            return so_far(setup, offer, chars, halt, at);
         };
         at += n;
         let store = effect.store;
         keep(values, store);
         offer = effect.offer;
         chars = [0u8; hearing::MOST];
-        stop = hearing::to_close(&mut chars, 0, words, stop.at + 1);
+        halt = hearing::to_close(&mut chars, 0, words, halt.at + 1);
     }
-    so_far(letter, address, offer, chars, stop, at)
+    so_far(setup, offer, chars, halt, at)
 }

@@ -1,41 +1,45 @@
 // The card: what a word does to it, one word at a time, in place, and a run of words.
 ghost use mathlib.Core.Path.{_≡_};
 ghost use mathlib.Core.Bool.{true};
-ghost use Rattle.sheet.specs.Sheet.{soundSheet};
+ghost use mathlib.Core.List.{[], _∷_};
+ghost use Rattle.refusal.specs.Refusal.{verdictOf};
+ghost use Rattle.refusal.specs.Check.{first, decided};
 ghost use Rattle.hearing.specs.Hearing.{none, added};
+ghost use Rattle.sheet.specs.Sheet.{soundSheet};
 ghost use Rattle.card.specs.Turn.{withBoth, turn};
-ghost use Rattle.card.specs.Sound.{soundCard, soundOffer, verdictOf};
-ghost use Rattle.card.specs.Calls.{stepBy, stepCall, runCall, outcomeOf};
-ghost use Rattle.refusal.specs.Refusal.{outcomeOf as writtenOf};
+ghost use Rattle.card.specs.Refusals.{soundSetup, soundCard, soundOffer, cardChecks, roomCheck};
+ghost use Rattle.card.specs.Calls.{kept, stepOutcome, stepAfter, answered, stepCall, runAfter, runCall};
 use act::Offer;
+use act::Setup;
+use hearing::Action;
 use hearing::Pending;
 use refusal::Refusal;
-use refusal::Written;
+use refusal::Verdict;
 use sheet::Entry;
 
 mod answering;
 
+// What a card is set to, the open message, and what is on offer.
 pub struct Card {
-    pub letter: u8,
-    pub address: u8,
+    pub setup: Setup,
     pub pending: Pending,
     pub offer: Offer,
 }
 
-// Whether a call can be served.
-pub enum Verdict {
+// What the single word's calls answer: how many bytes were replied, 0 for silence.
+pub enum StepAnswer {
     Refused(Refusal),
-    Sound,
+    Replied(usize),
 }
 
-// What the single word's calls give: the card beside their answer.
+// What a single word gives: the card beside the answer.
 pub struct Stepped {
     pub card: Card,
-    pub answer: Written,
+    pub answer: StepAnswer,
 }
 
-// Words taken and bytes written.
-pub enum Taken {
+// What a run answers: words taken and bytes written.
+pub enum RunAnswer {
     Refused(Refusal),
     Took { words: usize, bytes: usize },
 }
@@ -43,7 +47,7 @@ pub enum Taken {
 // What a run gives: the card beside its answer.
 pub struct Ran {
     pub card: Card,
-    pub answer: Taken,
+    pub answer: RunAnswer,
 }
 
 impl Card {
@@ -52,10 +56,10 @@ impl Card {
         ensures { λ r. ⌜ r ≡ withBoth self (added none c) (self .offer) ⌝ }
     {
         let pending = Pending::new().add(c);
+        let setup = self.setup;
         let offer = self.offer;
         Card {
-            letter: self.letter,
-            address: self.address,
+            setup,
             pending,
             offer,
         }
@@ -67,10 +71,10 @@ impl Card {
     {
         let held = self.pending;
         let pending = held.add(c);
+        let setup = self.setup;
         let offer = self.offer;
         Card {
-            letter: self.letter,
-            address: self.address,
+            setup,
             pending,
             offer,
         }
@@ -81,10 +85,10 @@ impl Card {
         ensures { λ r. ⌜ r ≡ withBoth self none (self .offer) ⌝ }
     {
         let pending = Pending::new();
+        let setup = self.setup;
         let offer = self.offer;
         Card {
-            letter: self.letter,
-            address: self.address,
+            setup,
             pending,
             offer,
         }
@@ -93,11 +97,11 @@ impl Card {
     pub fn drop_offer(self) -> Card
         ensures { λ r. ⌜ r ≡ withBoth self (self .pending) Offer.Nothing ⌝ }
     {
+        let setup = self.setup;
         let pending = self.pending;
         let offer = Offer::Nothing;
         Card {
-            letter: self.letter,
-            address: self.address,
+            setup,
             pending,
             offer,
         }
@@ -110,23 +114,31 @@ impl Card {
         let Offer::Held { identifier, value } = offer else {
             return self.drop_offer();
         };
+        let setup = self.setup;
         let pending = self.pending;
         let offer = Offer::Held { identifier, value };
         Card {
-            letter: self.letter,
-            address: self.address,
+            setup,
             pending,
             offer,
         }
     }
 }
 
-// The card by itself: letter, address, open message.
+// A setup that a card may have.
+fn sound_setup(setup: Setup) -> bool
+    ensures { λ r. ⌜ r ≡ soundSetup setup ⌝ }
+{
+    message::is_letter(setup.letter) & message::is_address(setup.address)
+}
+
+// The card by itself: its setup and its open message.
 pub fn sound_card(card: Card) -> bool
     ensures { λ r. ⌜ r ≡ soundCard card ⌝ }
 {
+    let setup = card.setup;
     let pending = card.pending;
-    message::is_letter(card.letter) & message::is_address(card.address) & pending.is_sound()
+    sound_setup(setup) & pending.is_sound()
 }
 
 // An offer that a Type 3 message can leave under these sheets.
@@ -150,7 +162,7 @@ pub fn check<'a>(
     values: &[i32],
     words: &[u16],
 ) -> Verdict
-    ensures { λ r. ⌜ r ≡ verdictOf card (now (bench .entry)) (now (maker .entry)) (now (values .entry)) (now (words .entry)) ⌝ }
+    ensures { λ r. ⌜ verdictOf r ≡ first (cardChecks card (now (bench .entry)) (now (maker .entry)) (now (values .entry)) (now (words .entry))) ⌝ }
 {
     if !sound_card(card) {
         return Verdict::Refused(Refusal::UnsoundCard);
@@ -168,10 +180,25 @@ pub fn check<'a>(
     if !wire::valid_words(words) {
         return Verdict::Refused(Refusal::WordAbove256);
     }
-    Verdict::Sound
+    Verdict::Passed
 }
 
-// The single word of a call that passed: number 5, or a run of this one word. Its reply always fits.
+// A word that closed no message: nothing is said, nothing stored.
+fn quiet(card: Card) -> Stepped
+    ensures { λ r. ⌜ r ≡ record { card = card; answer = StepAnswer.Replied 0 } ⌝ }
+{
+    let answer = StepAnswer::Replied(0);
+    Stepped { card, answer }
+}
+
+fn refused(card: Card, refusal: Refusal) -> Stepped
+    ensures { λ r. ⌜ r ≡ record { card = card; answer = StepAnswer.Refused refusal } ⌝ }
+{
+    let answer = StepAnswer::Refused(refusal);
+    Stepped { card, answer }
+}
+
+// The single word of a call that passed: number 5, or what the word does.
 fn take<'a>(
     card: Card,
     bench: &'a [i32],
@@ -181,32 +208,25 @@ fn take<'a>(
     out: &mut [u8],
 ) -> Stepped
     requires { ⌜ (soundSheet (now bench) ≡ true) × (soundSheet (now maker) ≡ true) ⌝ }
-    ensures { λ r. ⌜ (r .card ≡ stepBy Verdict.Sound (turn (now (bench .entry)) (now (maker .entry)) card (now (values .entry)) word) card (now (values .entry)) (now (out .entry)) .card)
-        × (writtenOf (r .answer) ≡ stepBy Verdict.Sound (turn (now (bench .entry)) (now (maker .entry)) card (now (values .entry)) word) card (now (values .entry)) (now (out .entry)) .outcome)
-        × (now (values .exit) ≡ stepBy Verdict.Sound (turn (now (bench .entry)) (now (maker .entry)) card (now (values .entry)) word) card (now (values .entry)) (now (out .entry)) .values)
-        × (now (out .exit) ≡ stepBy Verdict.Sound (turn (now (bench .entry)) (now (maker .entry)) card (now (values .entry)) word) card (now (values .entry)) (now (out .entry)) .buffer) ⌝ }
+    ensures { λ r. ⌜ stepAfter r (now (values .exit)) (now (out .exit)) ≡ decided (first (roomCheck (now (out .entry)) ∷ [])) (kept card (now (values .entry)) (now (out .entry))) (answered (turn (now (bench .entry)) (now (maker .entry)) card (now (values .entry)) word) (now (values .entry)) (now (out .entry))) ⌝ }
 {
-    if out.len() < wire::LONGEST {
-        let answer = Written::Refused(Refusal::RoomTooShort);
-        return Stepped { card, answer };
+    if out.len() < reply::LONGEST_REPLY {
+        return refused(card, Refusal::RoomTooShort);
     }
-    let words = [word];
-    let ran = answering::take_all(card, bench, maker, values, &words, out);
-    let card = ran.card;
-    let taken = ran.answer;
-    match taken {
-        Taken::Refused(refusal) => {
-            let answer = Written::Refused(refusal);
-            Stepped { card, answer }
+    let pending = card.pending;
+    match pending.action(word) {
+        Action::Ignore => quiet(card),
+        Action::Open(c) => quiet(card.open(c)),
+        Action::Add(c) => quiet(card.add(c)),
+        Action::Close => {
+            let parsed = pending.close();
+            answering::answer(card.close(), bench, maker, values, parsed, out)
         }
-        Taken::Took { words: _, bytes } => {
-            let answer = Written::Wrote(bytes);
-            Stepped { card, answer }
-        }
+        Action::Drop => quiet(card.close()),
     }
 }
 
-// One word: its reply, of at most LONGEST bytes, stands at the front of the buffer afterwards.
+// One word: its reply, of at most LONGEST_REPLY bytes, stands at the front of the buffer afterwards.
 pub fn step<'a>(
     card: Card,
     bench: &'a [i32],
@@ -215,18 +235,12 @@ pub fn step<'a>(
     word: u16,
     out: &mut [u8],
 ) -> Stepped
-    ensures { λ r. ⌜ (r .card ≡ stepCall card (now (bench .entry)) (now (maker .entry)) (now (values .entry)) word (now (out .entry)) .card)
-        × (writtenOf (r .answer) ≡ stepCall card (now (bench .entry)) (now (maker .entry)) (now (values .entry)) word (now (out .entry)) .outcome)
-        × (now (values .exit) ≡ stepCall card (now (bench .entry)) (now (maker .entry)) (now (values .entry)) word (now (out .entry)) .values)
-        × (now (out .exit) ≡ stepCall card (now (bench .entry)) (now (maker .entry)) (now (values .entry)) word (now (out .entry)) .buffer) ⌝ }
+    ensures { λ r. ⌜ stepAfter r (now (values .exit)) (now (out .exit)) ≡ stepCall card (now (bench .entry)) (now (maker .entry)) (now (values .entry)) word (now (out .entry)) ⌝ }
 {
     let words = [word];
     match check(card, bench, maker, values, &words) {
-        Verdict::Refused(refusal) => {
-            let answer = Written::Refused(refusal);
-            Stepped { card, answer }
-        }
-        Verdict::Sound => take(card, bench, maker, values, word, out),
+        Verdict::Refused(refusal) => refused(card, refusal),
+        Verdict::Passed => take(card, bench, maker, values, word, out),
     }
 }
 
@@ -238,11 +252,8 @@ pub fn receive<'a>(
     values: &mut [i32],
     word: u16,
     out: &mut [u8],
-) -> Written
-    ensures { λ r. ⌜ (writtenOf r ≡ stepCall (now (card .entry)) (now (bench .entry)) (now (maker .entry)) (now (values .entry)) word (now (out .entry)) .outcome)
-        × (now (card .exit) ≡ stepCall (now (card .entry)) (now (bench .entry)) (now (maker .entry)) (now (values .entry)) word (now (out .entry)) .card)
-        × (now (values .exit) ≡ stepCall (now (card .entry)) (now (bench .entry)) (now (maker .entry)) (now (values .entry)) word (now (out .entry)) .values)
-        × (now (out .exit) ≡ stepCall (now (card .entry)) (now (bench .entry)) (now (maker .entry)) (now (values .entry)) word (now (out .entry)) .buffer) ⌝ }
+) -> StepAnswer
+    ensures { λ r. ⌜ record { card = now (card .exit); outcome = stepOutcome r; values = now (values .exit); buffer = now (out .exit) } ≡ stepCall (now (card .entry)) (now (bench .entry)) (now (maker .entry)) (now (values .entry)) word (now (out .entry)) ⌝ }
 {
     let before = *card;
     let stepped = step(before, bench, maker, values, word, out);
@@ -259,16 +270,13 @@ pub fn run<'a>(
     words: &[u16],
     out: &mut [u8],
 ) -> Ran
-    ensures { λ r. ⌜ (r .card ≡ runCall card (now (bench .entry)) (now (maker .entry)) (now (values .entry)) (now (words .entry)) (now (out .entry)) .card)
-        × (outcomeOf (r .answer) ≡ runCall card (now (bench .entry)) (now (maker .entry)) (now (values .entry)) (now (words .entry)) (now (out .entry)) .outcome)
-        × (now (values .exit) ≡ runCall card (now (bench .entry)) (now (maker .entry)) (now (values .entry)) (now (words .entry)) (now (out .entry)) .values)
-        × (now (out .exit) ≡ runCall card (now (bench .entry)) (now (maker .entry)) (now (values .entry)) (now (words .entry)) (now (out .entry)) .buffer) ⌝ }
+    ensures { λ r. ⌜ runAfter r (now (values .exit)) (now (out .exit)) ≡ runCall card (now (bench .entry)) (now (maker .entry)) (now (values .entry)) (now (words .entry)) (now (out .entry)) ⌝ }
 {
     match check(card, bench, maker, values, words) {
         Verdict::Refused(refusal) => {
-            let answer = Taken::Refused(refusal);
+            let answer = RunAnswer::Refused(refusal);
             Ran { card, answer }
         }
-        Verdict::Sound => answering::take_all(card, bench, maker, values, words, out),
+        Verdict::Passed => answering::take_all(card, bench, maker, values, words, out),
     }
 }

@@ -3,43 +3,31 @@ use crate::player::Outcome;
 use crate::player::both;
 use crate::reader::field;
 
-// A sheet of four rows: identifier, access, decimals, step, least, greatest.
-fn sheet_of(a: [i32; 6], b: [i32; 6], c: [i32; 6], d: [i32; 6]) -> [i32; 24] {
-    [
-        a[0],
-        a[1],
-        a[2],
-        a[3],
-        a[4],
-        a[5],
-        b[0],
-        b[1],
-        b[2],
-        b[3],
-        b[4],
-        b[5],
-        c[0],
-        c[1],
-        c[2],
-        c[3],
-        c[4],
-        c[5],
-        d[0],
-        d[1],
-        d[2],
-        d[3],
-        d[4],
-        d[5],
-    ]
-}
+// Document 01, "Bench cases". A row: identifier, access, decimals, step, least, greatest.
+const BENCH: [[i32; 6]; 4] = [
+    [74, 2, 1, 5, -100, 100], // `J`
+    [77, 1, 1, 1, -1999, 9999], // `M`
+    [90, 3, 0, 1, 15, 18], // `Z`
+    [109, 2, 1, 5, 0, 1000], // `m`
+];
 
-// Document 01, "Bench cases": `J`, `M`, `Z`, `m`.
-fn bench_sheet() -> [i32; 24] {
-    let j = [74, 2, 1, 5, -100, 100];
-    let m = [77, 1, 1, 1, -1999, 9999];
-    let z = [90, 3, 0, 1, 15, 18];
-    let small_m = [109, 2, 1, 5, 0, 1000];
-    sheet_of(j, m, z, small_m)
+// A row for each count of decimals.
+const TABLE: [[i32; 6]; 4] = [
+    [97, 2, 0, 1, -9999, 9999], // `a`
+    [98, 2, 1, 1, -9999, 9999], // `b`
+    [99, 2, 2, 1, -9999, 9999], // `c`
+    [100, 2, 3, 1, -9999, 9999], // `d`
+];
+
+// The rows, one after the other.
+fn sheet_of(rows: [[i32; 6]; 4]) -> [i32; 24] {
+    let mut sheet = [0; 24];
+    let mut i = 0;
+    while i < 24 {
+        sheet[i] = rows[i / 6][i % 6];
+        i += 1;
+    }
+    sheet
 }
 
 // `J` has 0.
@@ -51,23 +39,14 @@ fn bench_values() -> [i32; 128] {
     values
 }
 
-// `a` to `d`, a row for each count of decimals.
-fn table_sheet() -> [i32; 24] {
-    let a = [97, 2, 0, 1, -9999, 9999];
-    let b = [98, 2, 1, 1, -9999, 9999];
-    let c = [99, 2, 2, 1, -9999, 9999];
-    let d = [100, 2, 3, 1, -9999, 9999];
-    sheet_of(a, b, c, d)
-}
-
 fn on_bench(line: &[u8]) -> Outcome {
-    let sheet = bench_sheet();
+    let sheet = sheet_of(BENCH);
     let none = [0i32; 0];
     both(b'L', &sheet, &none, bench_values(), line)
 }
 
 fn on_table(line: &[u8]) -> Outcome {
-    let sheet = table_sheet();
+    let sheet = sheet_of(TABLE);
     let none = [0i32; 0];
     both(b'L', &none, &sheet, [0; 128], line)
 }
@@ -104,11 +83,11 @@ fn on_indicator(line: &[u8]) -> Outcome {
 
 // A case, by its card.
 pub(crate) fn play(line: &[u8]) -> Outcome {
-    let letter = field(line, 1);
-    if letter.len() != 1 {
+    let card = field(line, 1);
+    if card.len() == 0 {
         return Outcome::Differs(0);
     }
-    match letter[0] {
+    match card[0] {
         b'B' => on_bench(line),
         b'C' => on_controller(line),
         b'P' => on_programmer(line),

@@ -6,7 +6,7 @@
 //     NAME CARD CHANGE SENT ANSWER SENT ANSWER ..
 //
 // CARD is B (the rows of document 01's bench cases), C (DCP 100 controller), P (DCP 100 programmer), U (UDI 1500) or T (rows `a` to
-// `d` for Table 5-1). Address 7, letter `L`, or `R` for P; no message open and no offer.
+// `d` for Table 5-1), and behind it the address where that isn't 7, as `C33`. Letter `L`, or `R` for P; no message open and no offer.
 // CHANGE is one initial value that the case has otherwise, as `m=1000`, in units of the last decimal; `-` where there is none.
 // SENT is a message, each character in good parity, but for `{256}`, a silence; `{M!}`, an `M` in bad parity; `{sp}`, a space.
 // ANSWER is what the card says to all of it, and `-` is silence. A case has at most `player::MESSAGES` messages.

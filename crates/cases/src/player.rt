@@ -1,13 +1,15 @@
 // A case on a card: its messages at once and word by word, and each answer compared.
+use crate::reader::address_of;
 use crate::reader::change;
 use crate::reader::field;
 use crate::reader::start;
 use crate::reader::words_of;
 use act::Offer;
+use act::Setup;
 use card::Card;
-use card::Taken;
+use card::RunAnswer;
+use card::StepAnswer;
 use hearing::Pending;
-use refusal::Written;
 
 // The words of a message, and the bytes of the replies to it.
 const WORDS: usize = 64;
@@ -78,7 +80,7 @@ fn by_run<'a>(
     let ran = card::run(card, bench, maker, values, words, &mut out);
     let card = ran.card;
     let taken = ran.answer;
-    let Taken::Took {
+    let RunAnswer::Took {
         words: count,
         bytes: said,
     } = taken
@@ -87,6 +89,21 @@ fn by_run<'a>(
     };
     let same = (count == words.len()) & is_answer(&out, said, answer);
     Played { card, same }
+}
+
+// So many bytes more were said.
+fn further(card: Card, said: usize, n: usize, fine: bool) -> Saying {
+    if n <= REPLIES {
+        if said <= REPLIES {
+            let said = said + n;
+            return Saying { card, said, fine };
+        }
+    }
+    Saying {
+        card,
+        said,
+        fine: false,
+    }
 }
 
 // One word, whose reply goes behind what was said.
@@ -106,26 +123,14 @@ fn one<'a>(
     let stepped = card::step(before, bench, maker, values, word, &mut out[said..]);
     let card = stepped.card;
     let answer = stepped.answer;
-    let Written::Wrote(n) = answer else {
+    let StepAnswer::Replied(n) = answer else {
         return Saying {
             card,
             said,
             fine: false,
         };
     };
-    if n <= out.len() - said {
-        Saying {
-            card,
-            said: said + n,
-            fine: saying.fine,
-        }
-    } else {
-        Saying {
-            card,
-            said,
-            fine: false,
-        }
-    }
+    further(card, said, n, saying.fine)
 }
 
 // The words one by one.
@@ -221,12 +226,12 @@ fn messages<'a>(
     Outcome::Same
 }
 
-fn fresh(letter: u8) -> Card {
+fn fresh(letter: u8, address: u8) -> Card {
+    let setup = Setup { letter, address };
     let pending = Pending::new();
     let offer = Offer::Nothing;
     Card {
-        letter,
-        address: 7,
+        setup,
         pending,
         offer,
     }
@@ -246,9 +251,17 @@ pub(crate) fn both<'a>(
         return Outcome::Differs(0);
     }
     let mut second = first;
-    let outcome = messages(true, fresh(letter), bench, maker, &mut first, line);
+    let address = address_of(field(line, 1));
+    let outcome = messages(true, fresh(letter, address), bench, maker, &mut first, line);
     let Outcome::Same = outcome else {
         return outcome;
     };
-    messages(false, fresh(letter), bench, maker, &mut second, line)
+    messages(
+        false,
+        fresh(letter, address),
+        bench,
+        maker,
+        &mut second,
+        line,
+    )
 }

@@ -135,6 +135,19 @@ pub(crate) fn change(values: &mut [i32], text: &[u8]) -> bool {
     }
 }
 
+// The address behind a card's letter; 7 where there is none, and 0, which no card has, where it is no address.
+pub(crate) fn address_of(card: &[u8]) -> u8 {
+    if card.len() < 2 {
+        return 7;
+    }
+    let text = &card[1..];
+    if !is_number(text) {
+        return 0;
+    }
+    let n = digits(text);
+    if n < 100 { n as u8 } else { 0 }
+}
+
 // The word of one character, or of what stands in braces; UNKNOWN where that says nothing.
 fn word_of(part: &[u8]) -> u16 {
     if part.len() == 1 {

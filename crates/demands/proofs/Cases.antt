@@ -2,34 +2,36 @@
 -- Assumes nothing.
 use mathlib.Core.Path.{_≡_, refl}
 use mathlib.Core.Bool.{Bool, true, _&&_}
-use mathlib.Core.List.{List, [], _∷_}
-use Rattle.demands.specs.Bench.{benchRows, benchValues, benchCard, Exchange, _⇒_, Case, case, benchCases, moreCases, sameValues, answersAll, passes, allPass}
+use mathlib.Core.List.{List, []}
 use lib.Count.{ones, onesIn}
-use Rattle.refusal.specs.Call.{laid}
-use lib.IntN.{ℤ, pos}
-use Rattle.wire.specs.Word.{evenParity, withParity, received, travelling, every}
-use Rattle.wire.specs.Line.{empty, put, lineOf, bytesOf}
+use lib.IntN.{pos}
+use Rattle.refusal.specs.Lists.{every, same}
+use Rattle.refusal.specs.Buffer.{laid}
+use Rattle.refusal.specs.Check.{first}
+use Rattle.wire.specs.Word.{evenParity, withParity, received, travelling, validWords}
 use Rattle.number.specs.Number.{inRange, isMultiple, cutDown, cut, raised, lowered}
-use Rattle.number.specs.Data.{digit, isDigit, digitOf, fits, codeOf, fiveDigits, spellData, decode, next, readFrom, readData}
+use Rattle.number.specs.Data.{digit, isDigit, digitOf, fits, codeOf, fiveDigits, spellData, decode, readNext, readFrom, readData}
 use Rattle.message.specs.Message.{isLetter, isAddress, isIdentifier}
-use Rattle.message.specs.Scan.{stepIdentifier, stepAddress, stepData, stepBody, step, scan, finish, parse}
+use Rattle.message.specs.Prefix.{extendIdentifier, extendAddress, extendData, extendBody, extend, extendAll, finish, parse}
 use Rattle.message.specs.Spell.{spellAddress}
 use Rattle.hearing.specs.Hearing.{none, added, openOf, opening, continuing, actionOf, perform, hear}
 use Rattle.hearing.specs.Sound.{plainChar, plain, zeros, soundPending}
 use Rattle.sheet.specs.Sheet.{rows, soundIdentifier, soundNumbers, soundRow, soundRows, soundSheet}
-use Rattle.sheet.specs.Lookup.{isCode, isFor, rowAmong, placeAmong, rowIn, placeIn, hasRow, rowOf}
+use Rattle.sheet.specs.Lookup.{codeIs, rowAmong, placeAmong, rowIn, placeIn, hasRow, rowOf}
+use Rattle.sheet.specs.Lookup as lookup
 use Rattle.sheet.specs.Values.{numbersOf, entryOf, entryIn, isReadable, isWritable, isReadWrite, fitsRow, fitsPlace, soundFrom, soundValues}
 use Rattle.reply.specs.Reply.{spellContent, spellAnswer}
-use Rattle.reply.specs.Read.{same}
-use Rattle.act.specs.Act.{says, puts, shownBy, declines, query, moves, up, down, offers, set, store, serve, respond, act}
 use Rattle.act.specs.declared.Offer.the-variants.{Nothing}
-use Rattle.card.specs.Sound.{soundCard, soundOffer}
-use Rattle.demands.specs.Terms.{Sound}
+use Rattle.act.specs.Act.{says, accepts, shownBy, declines, query, moves, up, down, offers, setTo, store, serve, isFor, respond, act}
 use Rattle.card.specs.Turn.{effectOf, turned, turn, stored, play}
+use Rattle.card.specs.Refusals.{soundSetup, soundCard, offerable, soundOffer, cardChecks}
+use Rattle.card.specs.Calls.{runCall}
+use Rattle.demands.specs.Terms.{Sound}
+use Rattle.demands.specs.Bench.{benchRows, benchValues, benchCard, Case, benchCases, moreCases, equalZ, took, answersAll, passes, allPass}
 
 -- what a table computes through
 computed : List Case → Bool
-unfolding ones onesIn laid evenParity withParity received travelling empty put lineOf bytesOf inRange isMultiple cutDown cut raised lowered digit isDigit digitOf fits codeOf fiveDigits spellData decode next readFrom readData isLetter isAddress isIdentifier stepIdentifier stepAddress stepData stepBody step scan finish parse spellAddress none added openOf opening continuing actionOf perform hear rows soundIdentifier soundNumbers soundRow isCode isFor rowAmong placeAmong rowIn placeIn hasRow rowOf numbersOf entryOf entryIn isReadable isWritable isReadWrite spellContent spellAnswer same says puts shownBy declines query moves up down offers set store serve respond act effectOf turned turn stored play benchRows benchValues benchCard sameValues answersAll passes allPass
+unfolding ones onesIn every same laid first evenParity withParity received travelling validWords inRange isMultiple cutDown cut raised lowered digit isDigit digitOf fits codeOf fiveDigits spellData decode readNext readFrom readData isLetter isAddress isIdentifier extendIdentifier extendAddress extendData extendBody extend extendAll finish parse spellAddress none added openOf opening continuing actionOf perform hear plainChar plain zeros soundPending rows soundIdentifier soundNumbers soundRow soundRows soundSheet codeIs lookup.isFor rowAmong placeAmong rowIn placeIn hasRow rowOf numbersOf entryOf entryIn isReadable isWritable isReadWrite fitsRow fitsPlace soundFrom soundValues spellContent spellAnswer says accepts shownBy declines query moves up down offers setTo store serve isFor respond act effectOf turned turn stored play soundSetup soundCard offerable soundOffer cardChecks runCall benchRows benchValues benchCard equalZ took answersAll passes allPass
 computed xs = allPass xs
 
 -- cases a to l
@@ -42,12 +44,11 @@ pub more : allPass moreCases ≡ true
 unfolding computed moreCases
 more = refl
 
--- ---- the claims are not empty: the bench's card, sheets and values are sound, and the card replies
-
+-- the claims on sound cards, sheets and values are not empty: those of the bench are sound
 sounds : Bool
-unfolding every plainChar plain zeros soundPending isLetter isAddress none isDigit isIdentifier inRange isMultiple rows soundIdentifier soundNumbers soundRow soundRows soundSheet isCode isFor rowAmong placeAmong rowIn placeIn hasRow rowOf numbersOf fitsRow fitsPlace soundFrom soundValues soundCard soundOffer benchRows benchValues benchCard
+unfolding computed
 sounds = soundCard benchCard && (soundSheet [] && soundSheet benchRows) && soundOffer [] benchRows Nothing && soundValues [] benchRows (benchValues (pos 20))
 
 pub bench-sound : Sound [] benchRows benchCard (benchValues (pos 20))
-unfolding sounds
+unfolding sounds computed
 bench-sound = record { card-sound = refl; sheets-sound = refl; offer-sound = refl; values-sound = refl }

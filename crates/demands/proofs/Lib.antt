@@ -1,7 +1,8 @@
 pub mod Cases
-pub mod Recordings
+pub mod Refusals
 pub mod Words
 pub mod Kept
-pub mod Offers
 pub mod Answers
 pub mod Possible
+pub mod Offers
+pub mod Recordings

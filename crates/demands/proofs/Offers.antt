@@ -1,25 +1,61 @@
 -- What a Type 3 message leaves on offer is sound and not above the number asked for; and a sound offer is left by the message that asks
 -- for its own value, since a multiple of the step is its own cut. Assumes nothing.
-use mathlib.Core.Path.{_≡_, refl, ap, _∙_, subst}
-use mathlib.Core.Bool.{true}
-use mathlib.Core.List.{List, []}
+use mathlib.Core.Path.{_≡_, refl, sym, ap, _∙_, subst}
+use mathlib.Core.Bool.{true, _&&_}
+use mathlib.Core.List.{List}
 use Prim.Native.Nat.{ℕ}
 use Prim.Native.Char.{code}
 use lib.Dec.{lit≤}
 use lib.IntN.{ℤ}
+use lib.ListN.{length}
+use Rattle.refusal.specs.Refusal.{gave}
+use Rattle.refusal.proofs.Logic.{and-left, and-right}
+use Rattle.wire.specs.Word.{withParity}
+use Rattle.number.specs.declared.Decimal.{Decimal}
 use Rattle.number.specs.Number.{inRange, cut}
+use Rattle.number.specs.Data.{withDecimals}
 use Rattle.number.proofs.Cuts.{cut-is, cut-multiple, cut-below, cut-greatest, cut-own}
 use Rattle.number.proofs.Reading.{within-fits}
 use Rattle.message.specs.declared.Body.the-variants.{Set}
 use Rattle.message.specs.declared.Message.{Message}
+use Rattle.message.specs.declared.Parsed.{Parsed}
+use Rattle.message.specs.declared.Parsed.the-variants.{Heard}
+use Rattle.message.specs.Message.{star, isMessage}
 use Rattle.message.proofs.Messages.{whole, parts-body, letter-is, address-is}
+use Rattle.hearing.specs.Hearing.{hear}
+use Rattle.hearing.proofs.Sound.{spelled-closed}
 use Rattle.sheet.specs.declared.Row.{Row}
+use Rattle.sheet.specs.Sheet.{soundSheet}
 use Rattle.sheet.proofs.Values.{SoundRow, entry-sound, entry-identifier, fits-parts, range-small}
+use Rattle.sheet.proofs.Least.{leastValues, least-sound}
 use Rattle.act.specs.declared.Offer.the-variants.{Nothing, Held}
-use Rattle.act.proofs.OnOffer.{act-leaves, set-leaves}
-use Rattle.card.specs.Sound.{soundOffer}
+use Rattle.act.specs.declared.Effect.{Effect}
+use Rattle.act.specs.Act.{act}
+use Rattle.act.proofs.OnOffer.{Leaves, act-leaves, set-leaves}
+use Rattle.card.specs.declared.Card.{Card}
+use Rattle.card.specs.Turn.{turn}
+use Rattle.card.specs.Refusals.{soundOffer}
+use Rattle.card.specs.Calls.{After, stepCall}
+use Rattle.card.proofs.Turns.{effects, effect-heard, turn-card}
+use Rattle.card.proofs.Steps.{served-step}
 use Rattle.card.proofs.Sounds.{Offerable, offer-parts, leaves-sound}
 use Rattle.demands.specs.Demand2.{LeftBy, OfferReachable, NotAbove, NeverUp}
+use Rattle.demands.proofs.Words.{taken}
+use Rattle.demands.proofs.Possible.{setupFor, cardFor, for-itself, room, star-valid, card-sound}
+
+-- ---- what a word that closes a message leaves on offer
+
+module _ (bench maker : List ℤ) (c : Card) (values : List ℤ) (w : ℕ) (m : Message) (h : hear (c .pending) w .message ≡ Heard m) where
+  turn-offer : turn bench maker c values w .card .offer ≡ act bench maker (c .setup) (c .offer) values m .offer
+  turn-offer =
+      ap (λ (x : Card). x .offer) (turn-card bench maker c values w)
+      ∙ ap (λ (p : Parsed). effects bench maker c values p .offer) h
+      ∙ ap (λ (x : Effect). x .offer) (effect-heard bench maker (c .setup) (c .offer) values m)
+
+  call-leaves : (out : List ℕ) (k i : ℕ) (z : ℤ) → stepCall c bench maker values w out .outcome ≡ gave k → stepCall c bench maker values w out .card .offer ≡ Held i z → Leaves bench maker m i z
+  call-leaves out k i z g l =
+      act-leaves bench maker m (c .setup) (c .offer) values i z
+      (sym turn-offer ∙ sym (ap (λ (a : After ℕ). a .card .offer) (served-step c bench maker values w out k g .leaves)) ∙ l)
 
 -- ---- never up
 
@@ -34,14 +70,14 @@ cut-not-above r n s h =
 
 pub never-up : NeverUp
 never-up = record {
-  never-up = λ bench maker letter address o values m n d z r e b l.
+  never-up = λ bench maker c values w out k m x z r g h b e l.
       let i = m .identifier in
-      let q = act-leaves bench maker m letter address o values i z l in
+      let q = call-leaves bench maker c values w m h out k i z g l in
       let same-row : q .row ≡ r = cc (q .found) in
-      let same-number : q .number ≡ n = cc (q .type-3) in
-      subst (λ (x : ℤ). NotAbove x z r) same-number
-      (subst (λ (x : Row). NotAbove (q .number) z x) same-row
-      (subst (λ (x : ℤ). NotAbove (q .number) x (q .row)) (q .value) (cut-not-above (q .row) (q .number) (entry-sound bench maker i (q .row) (q .found)) (q .in-range))));
+      let same-number : q .number ≡ x = cc (q .type-3) in
+      subst (λ (y : Decimal). NotAbove (y .number) z r) same-number
+      (subst (λ (y : Row). NotAbove (q .number .number) z y) same-row
+      (subst (λ (y : ℤ). NotAbove (q .number .number) y (q .row)) (q .value) (cut-not-above (q .row) (q .number .number) (entry-sound bench maker i (q .row) (q .found)) (q .in-range))));
 }
 
 -- ---- sound offers
@@ -49,39 +85,50 @@ never-up = record {
 module _ (bench maker : List ℤ) (i : ℕ) (z : ℤ) where
   -- what a Type 3 leaves is sound
   left-sound : LeftBy bench maker (Held i z) → soundOffer bench maker (Held i z) ≡ true
-  left-sound l = leaves-sound bench maker (l .message) i z (act-leaves bench maker (l .message) (l .letter) (l .address) (l .held) (l .values) i z (l .leaves))
+  left-sound l = leaves-sound bench maker (l .message) i z (call-leaves bench maker (l .card) (l .values) (l .word) (l .message) (l .closes) (l .out) (l .bytes) i z (l .gives) (l .leaves))
 
   -- the Type 3 that asks for the value on offer
   abbrev asks : ℕ → Message
-  asks d = record { letter = code "L"; address = 1; identifier = i; body = Set z d }
+  asks d = record { letter = code "L"; address = 1; identifier = i; body = Set (withDecimals z d) }
 
-  offer-left : Offerable bench maker i z → LeftBy bench maker (Held i z)
-  offer-left o =
+  offer-left : (soundSheet bench && soundSheet maker) ≡ true → Offerable bench maker i z → LeftBy bench maker (Held i z)
+  offer-left sheets o =
       let r = o .allowed .row in
       let e = o .allowed .found in
       let s = entry-sound bench maker i r e in
       let c = entry-identifier bench maker i r e in
       let p = fits-parts r z (o .allowed .fits) in
       let b = range-small r s z (p .0) in
+      let m = asks (r .decimals) in
+      let x = withDecimals z (r .decimals) in
+      let is-message : isMessage m ≡ true = whole m (record {
+        is-letter = letter-is;
+        is-address = address-is 1 (lit≤ tt) (lit≤ tt);
+        is-identifier = c .0;
+        fits-body = parts-body i (Set x) (c .1, within-fits x b (s .decimals-most));
+      }) in
+      let values = leastValues bench maker in
+      let sound = card-sound m is-message bench maker values sheets (least-sound bench maker (and-left (soundSheet bench) (soundSheet maker) sheets) (and-right (soundSheet bench) (soundSheet maker) sheets)) in
+      let call = taken bench maker (cardFor m) values sound (withParity star) room star-valid (lit≤ tt) in
       record {
-        letter = code "L";
-        address = 1;
-        held = Nothing;
-        values = [];
-        message = asks (r .decimals);
-        number = z;
-        decimals = r .decimals;
-        is-message = whole (asks (r .decimals)) (record {
-          is-letter = letter-is;
-          is-address = address-is 1 (lit≤ tt) (lit≤ tt);
-          is-identifier = c .0;
-          fits-body = parts-body i (Set z (r .decimals)) (c .1, within-fits z (r .decimals) b (s .decimals-most));
-        });
+        card = cardFor m;
+        values = values;
+        word = withParity star;
+        out = room;
+        message = m;
+        number = x;
+        bytes = length (turn bench maker (cardFor m) values (withParity star) .reply);
+        sound = sound;
+        nothing-before = refl;
+        closes = spelled-closed m is-message;
         is-type-3 = refl;
+        gives = ap (λ (a : After ℕ). a .outcome) call;
         leaves =
-            set-leaves bench maker Nothing [] (asks (r .decimals)) r e z refl (o .writable) (p .0)
+            ap (λ (a : After ℕ). a .card .offer) call
+            ∙ turn-offer bench maker (cardFor m) values (withParity star) m (spelled-closed m is-message)
+            ∙ set-leaves bench maker (setupFor m) Nothing values m (for-itself m) r e z refl (o .writable) (p .0)
             ∙ ap (Held i) (cut-own (r .step) (s .step-least) z b (s .step-most) (p .1));
       }
 
 pub offer-reachable : OfferReachable
-offer-reachable = record { reachable = λ bench maker i z. (λ s. offer-left bench maker i z (offer-parts bench maker i z s), left-sound bench maker i z) }
+offer-reachable = record { reachable = λ bench maker h i z. (λ s. offer-left bench maker i z h (offer-parts bench maker i z s), left-sound bench maker i z) }

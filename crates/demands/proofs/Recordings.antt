@@ -1,28 +1,55 @@
 -- Demand 3, as one claim over whole recordings: the hearing half is hearing's own theorems, and the playing half follows from them,
 -- since a run with room for every reply obeys the messages heard. Assumes nothing.
-use mathlib.Core.Path.{_≡_, sym, ap, _∙_}
+use mathlib.Core.Path.{_≡_, sym, ap, _∙_, subst}
+use mathlib.Core.Logic.{_↔_}
 use mathlib.Core.Bool.{true}
 use mathlib.Core.List.{List, [], _∷_, _++_}
 use Prim.Native.Nat.{ℕ, _≤_}
 use native.Mathlib.Omega.{arith}
 use lib.IntN.{ℤ}
-use lib.ListN.{length, take}
+use lib.ListN.{length, take, drop}
 use Rattle.refusal.specs.Refusal.{gave}
-use Rattle.refusal.specs.Call.{laid}
-use Rattle.refusal.proofs.Calls.{laid-front}
-use Rattle.wire.specs.Line.{bytesOf}
+use Rattle.refusal.specs.Buffer.{laid}
+use Rattle.refusal.specs.Call.{Call}
+use Rattle.refusal.proofs.Buffers.{laid-front, laid-behind}
 use Rattle.wire.specs.Word.{validWords}
-use Rattle.hearing.specs.Hearing.{none}
-use Rattle.hearing.specs.Normal.{normal}
-use Rattle.hearing.proofs.Normal.{heard-normal, normal-normal, normal-same, normal-valid, normal-written}
+use Rattle.hearing.specs.Hearing.{heard}
+use Rattle.hearing.specs.Normal.{normal, normalCall}
+use Rattle.hearing.proofs.Normal.{heard-normal, normal-normal, normal-same, normal-valid, normal-served, wrote-normal}
 use Rattle.card.specs.declared.Card.{Card}
-use Rattle.card.specs.declared.Verdict.the-variants as verdict
 use Rattle.card.specs.Turn.{Turn, turn, stored, Played}
-use Rattle.card.specs.Calls.{Run, runBy, runCall}
-use Rattle.card.proofs.Steps.{all-sound, run-served, run-leaves}
-use Rattle.card.proofs.Plays.{Left, all, no-bytes, more-bytes, all-taken, run-all, left-alike}
+use Rattle.card.specs.Calls.{After, Took, ended, runCall}
+use Rattle.card.proofs.Steps.{run-served}
+use Rattle.card.proofs.Plays.{Left, leftBy, all, no-bytes, more-bytes, all-taken, run-all, left-alike}
 use Rattle.demands.specs.Terms.{Sound, replies}
-use Rattle.demands.specs.Demand3.{PlayedAlike, Demand3}
+use Rattle.demands.specs.Demand3.{Wrote, PlayedAlike, Demand3}
+use Rattle.demands.proofs.Words.{passed}
+
+-- ---- the call that writes a normal form
+
+pub record Parts (ws out xs : List ℕ) : Type 0 where
+  pub valid : validWords ws ≡ true
+  pub is-normal : xs ≡ normal ws
+  pub room : length xs ≤ length out
+
+parts : (ws out xs : List ℕ) → Wrote ws out xs → Parts ws out xs
+parts ws out xs w =
+    let n = wrote-normal ws out (length xs) (w .gives) in
+    let e = sym (w .front) ∙ n .front in
+    record { valid = n .valid; is-normal = e; room = rw (ap length e) (n .room) }
+
+leaves : (ws out xs : List ℕ) → Parts ws out xs → normalCall ws out ≡ record { outcome = gave (length xs); buffer = laid xs out }
+leaves ws out xs p =
+    normal-served ws out (p .valid) (rw (sym (ap length (p .is-normal))) (p .room))
+    ∙ ap (λ (l : List ℕ). record { outcome = gave (length l); buffer = laid l out }) (sym (p .is-normal))
+
+whole : (ws out xs : List ℕ) → Parts ws out xs → Wrote ws out xs
+whole ws out xs p =
+    let l = leaves ws out xs p in
+    record { gives = ap (λ (c : Call). c .outcome) l; front = ap (λ (c : Call). take (length xs) (c .buffer)) l ∙ laid-front xs out }
+
+same-messages : (a b xs ys : List ℕ) → xs ≡ normal a → ys ≡ normal b → (xs ≡ ys) ↔ (heard a ≡ heard b)
+same-messages a b xs ys p q = (λ e. normal-same a b .0 (sym p ∙ e ∙ q), λ e. p ∙ normal-same a b .1 e ∙ sym q)
 
 -- ---- a run with room for every reply
 
@@ -31,60 +58,56 @@ unfolding replies
 all-replies bench maker c values [] = no-bytes bench maker c values
 all-replies bench maker c values (w ∷ ws) =
     let t : Turn = turn bench maker c values w in
-    more-bytes bench maker c values w ws ∙ ap (λ (l : List ℕ). bytesOf (t .reply) ++ l) (all-replies bench maker (t .card) (stored values (t .store)) ws)
+    more-bytes bench maker c values w ws ∙ ap (λ (l : List ℕ). t .reply ++ l) (all-replies bench maker (t .card) (stored values (t .store)) ws)
 
 module _ (bench maker : List ℤ) (c : Card) (values : List ℤ) (s : Sound bench maker c values) where
   abbrev ends : List ℕ → Played
   ends ws = all bench maker c values ws
 
-  served : (ws out : List ℕ) → validWords ws ≡ true → length (ends ws .bytes) ≤ length out
-      → runCall c bench maker values ws out ≡ record { card = ends ws .card; outcome = gave (record { words = ends ws .taken; bytes = length (ends ws .bytes) }); values = ends ws .values; buffer = laid (ends ws .bytes) out }
-  served ws out v h =
-      run-served c bench maker values ws out (all-sound c bench maker values ws (s .card-sound) (s .sheets-sound) (s .offer-sound) (s .values-sound) v)
-      ∙ ap (λ (p : Played). runBy verdict.Sound p c values out) (run-all bench maker c values (length out) ws h)
-      ∙ run-leaves (ends ws) c values out
-
   module _ (ws out : List ℕ) (n : ℕ) (v : validWords ws ≡ true) (b : length (ends ws .bytes) ≡ n) (h : n ≤ length out) where
-    fits : length (ends ws .bytes) ≤ length out
-    fits = omega arith
+    served : runCall c bench maker values ws out ≡ ended (ends ws) out
+    served = run-served c bench maker values ws out (passed bench maker c values s ws v) ∙ ap (λ (p : Played). ended p out) (run-all bench maker c values (length out) ws (omega arith))
 
     outcome : runCall c bench maker values ws out .outcome ≡ gave (record { words = length ws; bytes = n })
-    outcome = ap (λ (r : Run). r .outcome) (served ws out v fits) ∙ (λ j. gave (record { words = all-taken bench maker c values ws j; bytes = b j }))
+    outcome = ap (λ (r : After Took). r .outcome) served ∙ (λ j. gave (record { words = all-taken bench maker c values ws j; bytes = b j }))
 
     bytes-written : take n (runCall c bench maker values ws out .buffer) ≡ ends ws .bytes
     bytes-written =
-        ap (λ (r : Run). take n (r .buffer)) (served ws out v fits)
+        ap (λ (r : After Took). take n (r .buffer)) served
         ∙ ap (λ (k : ℕ). take k (laid (ends ws .bytes) out)) (sym b)
         ∙ laid-front (ends ws .bytes) out
 
-    values-left : runCall c bench maker values ws out .values ≡ ends ws .values
-    values-left = ap (λ (r : Run). r .values) (served ws out v fits)
-
-    offer-left : runCall c bench maker values ws out .card .offer ≡ ends ws .card .offer
-    offer-left = ap (λ (r : Run). r .card .offer) (served ws out v fits)
-
-  pub alike : (ws out out′ : List ℕ) → c .pending ≡ none → validWords ws ≡ true → length (replies bench maker c values ws) ≤ length out → length (replies bench maker c values ws) ≤ length out′
-      → PlayedAlike bench maker c values ws out out′
-  alike ws out out′ p v h h′ =
+  pub alike : (ws xs out out′ : List ℕ) → xs ≡ normal ws → c .pending .len ≡ 0 → validWords ws ≡ true → length (replies bench maker c values ws) ≤ length out
+      → length (replies bench maker c values xs) ≤ length out′ → PlayedAlike bench maker c values ws xs out out′
+  alike ws xs out out′ is-normal p v h h′ =
       let n = length (replies bench maker c values ws) in
-      let e = left-alike bench maker c values ws p in
+      let e = subst (λ (ys : List ℕ). leftBy (ends ws) ≡ leftBy (ends ys)) (sym is-normal) (left-alike bench maker c values ws p) in
       let b : length (ends ws .bytes) ≡ n = ap length (all-replies bench maker c values ws) in
-      let b′ : length (ends (normal ws) .bytes) ≡ n = sym (ap (λ (l : Left). length (l .bytes)) e) ∙ b in
-      let v′ = normal-valid ws in
+      let b′ : length (ends xs .bytes) ≡ n = sym (ap (λ (l : Left). length (l .bytes)) e) ∙ b in
+      let v′ : validWords xs ≡ true = ap validWords is-normal ∙ normal-valid ws in
+      let k : length (ends xs .bytes) ≡ length (replies bench maker c values xs) = ap length (all-replies bench maker c values xs) in
+      let m : n ≤ length out′ = omega arith in
       record {
         takes-all = outcome ws out n v b h;
-        normal-takes-all = outcome (normal ws) out′ n v′ b′ h′;
-        same-replies = bytes-written ws out n v b h ∙ ap (λ (l : Left). l .bytes) e ∙ sym (bytes-written (normal ws) out′ n v′ b′ h′);
-        same-values = values-left ws out n v b h ∙ ap (λ (l : Left). l .values) e ∙ sym (values-left (normal ws) out′ n v′ b′ h′);
-        same-offer = offer-left ws out n v b h ∙ ap (λ (l : Left). l .offer) e ∙ sym (offer-left (normal ws) out′ n v′ b′ h′);
+        normal-takes-all = outcome xs out′ n v′ b′ m;
+        same-replies = bytes-written ws out n v b h ∙ ap (λ (l : Left). l .bytes) e ∙ sym (bytes-written xs out′ n v′ b′ m);
+        same-values = ap (λ (r : After Took). r .values) (served ws out n v b h) ∙ ap (λ (l : Left). l .values) e ∙ sym (ap (λ (r : After Took). r .values) (served xs out′ n v′ b′ m));
+        same-offer = ap (λ (r : After Took). r .card .offer) (served ws out n v b h) ∙ ap (λ (l : Left). l .offer) e ∙ sym (ap (λ (r : After Took). r .card .offer) (served xs out′ n v′ b′ m));
       }
 
 pub demand-3 : Demand3
 demand-3 = record {
-  written = normal-written;
-  recording = normal-valid;
-  same = normal-same;
-  heard-alike = heard-normal;
-  own-normal-form = normal-normal;
-  played-alike = λ bench maker c values ws out out′ s p v h h′. alike bench maker c values s ws out out′ p v h h′;
+  served = λ ws out xs. (
+    λ w. let p = parts ws out xs w in (p .valid, p .is-normal, p .room),
+    λ p. whole ws out xs (record { valid = p .0; is-normal = p .1; room = p .2 }),
+  );
+  behind = λ ws out xs w. ap (λ (c : Call). drop (length xs) (c .buffer)) (leaves ws out xs (parts ws out xs w)) ∙ laid-behind xs out;
+  same = λ a b out out′ xs ys p q. same-messages a b xs ys (parts a out xs p .is-normal) (parts b out′ ys q .is-normal);
+  heard-alike = λ ws out xs w. ap heard (parts ws out xs w .is-normal) ∙ heard-normal ws;
+  own-normal-form = λ ws out out′ xs w h.
+      let e = parts ws out xs w .is-normal in
+      whole xs out′ xs (record { valid = ap validWords e ∙ normal-valid ws; is-normal = e ∙ sym (normal-normal ws) ∙ ap normal (sym e); room = h });
+  played-alike = λ ws out xs w bench maker c values a b s p h h′.
+      let q = parts ws out xs w in
+      alike bench maker c values s ws xs a b (q .is-normal) p (q .valid) h h′;
 }

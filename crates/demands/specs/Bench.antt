@@ -7,14 +7,15 @@ use Prim.Native.String.{String}
 use lib.Dec.{eqb}
 use lib.IntN.{ℤ, pos, negsuc}
 use lib.Signed.{leZ}
-use lib.ListN.{set, replicate}
+use lib.ListN.{length, take, set, replicate}
+use Rattle.refusal.specs.Lists.{same}
+use Rattle.refusal.specs.Refusal.{Outcome, refused, gave}
 use Rattle.wire.specs.Text.{chars}
 use Rattle.wire.specs.Word.{travelling}
 use Rattle.hearing.specs.Hearing.{none}
-use Rattle.reply.specs.Read.{same}
 use Rattle.card.specs.declared.Card.{Card}
 use Rattle.act.specs.declared.Offer.the-variants.{Nothing}
-use Rattle.card.specs.Turn.{Played, play}
+use Rattle.card.specs.Calls.{After, Took, runCall}
 
 -- "Rows: `J` (2, 1 decimal, step 5, -100 to 100), `M` (1, 1, 1, -1999 to 9999), `Z` (3, 0, 1, 15 to 18), `m` (2, 1, 5, 0 to 1000)."
 unfoldable pub benchRows : List ℤ
@@ -31,7 +32,7 @@ benchValues m = set (set (set (set (replicate 128 (pos 0)) (code "J") (pos 0)) (
 
 -- "Card `L`, address 7"; "no message open and no offer"
 unfoldable pub benchCard : Card
-benchCard = record { letter = code "L"; address = 7; pending = none; offer = Nothing }
+benchCard = record { setup = record { letter = code "L"; address = 7 }; pending = none; offer = Nothing }
 
 -- a message as sent, and what is answered to it
 pub record Exchange : Type 0 where
@@ -83,19 +84,25 @@ moreCases =
     ∷ case (pos 20) ("L7Z#00150*" ⇒ "L7Z00150I*" ∷ "L7ZI*" ⇒ "L7Z00150A*" ∷ "L7Z+*" ⇒ "L7Z00000N*" ∷ []) (pos 20)
     ∷ []
 
-unfoldable pub sameValues : List ℤ → List ℤ → Bool
-sameValues [] [] = true
-sameValues [] (y ∷ ys) = false
-sameValues (x ∷ xs) [] = false
-sameValues (x ∷ xs) (y ∷ ys) = leZ x y && leZ y x && sameValues xs ys
+-- the same number
+unfoldable pub equalZ : ℤ → ℤ → Bool
+equalZ x y = leZ x y && leZ y x
 
--- the card plays the exchanges one after the other, answers each as it should, and is left with these values
+-- the run gave this many words and bytes
+unfoldable pub took : Outcome Took → ℕ → ℕ → Bool
+took (refused n) words bytes = false
+took (gave t) words bytes = eqb (t .words) words && eqb (t .bytes) bytes
+
+-- each exchange is a run with room for 11 bytes: it is served, takes every word, and writes the answer; and the last leaves these values
 unfoldable pub answersAll : Card → List ℤ → List Exchange → List ℤ → Bool
-answersAll c values [] last = sameValues values last
+answersAll c values [] last = same equalZ values last
 answersAll c values (x ∷ xs) last =
-    let p : Played = play [] benchRows c values 11 (travelling (chars (x .sent))) in
-    same (p .bytes) (travelling (chars (x .answered))) && answersAll (p .card) (p .values) xs last
+    let sent : List ℕ = travelling (chars (x .sent)) in
+    let answer : List ℕ = travelling (chars (x .answered)) in
+    let r : After Took = runCall c [] benchRows values sent (replicate 11 0) in
+    took (r .outcome) (length sent) (length answer) && same eqb (take (length answer) (r .buffer)) answer && answersAll (r .card) (r .values) xs last
 
+-- a case from its start
 unfoldable pub passes : Case → Bool
 passes x = answersAll benchCard (benchValues (x .first)) (x .exchanges) (benchValues (x .last))
 

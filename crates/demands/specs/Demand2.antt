@@ -1,89 +1,102 @@
--- Demand 2: "For every word received, the reply or silence, the stored values and the card afterwards are those of document 01." That
--- is what the contracts of `card::step`, `receive` and `run` say, by equality with `stepCall` and `runCall`. The claims here are
--- about those definitions: what our writer and our reader make of them, and what they never do.
+-- Demand 2: "For every word received, the reply or silence, the stored values and the card afterwards are those of document 01, taken
+-- from the makers' manuals and our bench notes. Every message our writer makes is heard, where none is open, as the one asked for, and
+-- our reader reads every reply of the card as the answer it gave." The first sentence is what the contracts of `card::step`, `receive`
+-- and `run` say, by equality with `stepCall` and `runCall`. The claims here are about those calls, and about the writer's and the reader's.
 use mathlib.Core.Path.{_≡_}
 use mathlib.Core.Logic.{_↔_}
-use mathlib.Core.Bool.{true, cond}
-use mathlib.Core.List.{List, [], _∷_}
-use Prim.Native.Nat.{ℕ, _-_, _≤_}
-use lib.Dec.{leb}
+use mathlib.Core.Bool.{true, _&&_}
+use mathlib.Core.List.{List, [], _∷_, _++_}
+use Prim.Native.Nat.{ℕ, suc, _+_, _≤_, _<_}
 use lib.IntN.{ℤ, pos}
 use lib.Signed.{leZ}
-use lib.ListN.{length, getD, take}
-use Rattle.refusal.specs.Refusal.{gave}
-use Rattle.wire.specs.Line.{longest, bytesOf}
-use Rattle.wire.specs.Word.{travelling}
+use lib.ListN.{length, getD, take, drop}
+use Rattle.refusal.specs.Refusal.{Outcome, refused, gave}
+use Rattle.wire.specs.Word.{validWords}
+use Rattle.number.specs.declared.Decimal.{Decimal}
 use Rattle.number.specs.Number.{isMultiple}
 use Rattle.message.specs.declared.Body.the-variants.{Set}
 use Rattle.message.specs.declared.Message.{Message}
+use Rattle.message.specs.declared.Parsed.the-variants.{Heard}
 use Rattle.message.specs.Message.{isMessage}
-use Rattle.message.specs.Spell.{writeCall}
-use Rattle.hearing.specs.Hearing.{most, none, openAfter, heard}
+use Rattle.message.specs.Spell.{spell, writeCall}
+use Rattle.hearing.specs.Hearing.{most, none, hear, openAfter, heard}
 use Rattle.sheet.specs.declared.Row.{Row}
 use Rattle.sheet.specs.declared.Entry.the-variants.{Found, Missing}
+use Rattle.sheet.specs.Sheet.{soundSheet}
 use Rattle.sheet.specs.Values.{entryIn}
 use Rattle.reply.specs.declared.Answer.{Answer}
-use Rattle.reply.specs.Reply.{spellAnswer}
+use Rattle.reply.specs.Reply.{longestReply, spellAnswer}
 use Rattle.reply.specs.Read.{readCall}
 use Rattle.act.specs.declared.Offer.{Offer}
-use Rattle.act.specs.declared.Offer.the-variants.{Held}
-use Rattle.act.specs.declared.Said.the-variants.{Reply}
-use Rattle.act.specs.Act.{act}
+use Rattle.act.specs.declared.Offer.the-variants.{Nothing, Held}
+use Rattle.act.specs.declared.Said.the-variants.{Silence, Reply}
 use Rattle.card.specs.declared.Card.{Card}
-use Rattle.card.specs.Turn.{turn, stored, stopped, after, play}
-use Rattle.card.specs.Sound.{soundOffer}
-use Rattle.card.specs.Calls.{Step, stepCall}
+use Rattle.card.specs.Refusals.{soundOffer}
+use Rattle.card.specs.Calls.{After, stepCall, Took, runCall}
 use Rattle.demands.specs.Terms.{Sound, saidTo}
 
--- "Every message our writer makes is heard as the one asked for", from no open message, and leaves none open
+-- ---- the writer and the reader
+
+-- "Every message our writer makes is heard, where none is open, as the one asked for": it is served exactly when it is a message and it
+-- fits, and what it wrote is heard as that message and leaves none open
 pub record WriterHeard : Type 0 where
+  pub served : (m : Message) (out : List ℕ) (n : ℕ) → (writeCall m out .outcome ≡ gave n) ↔ ((isMessage m ≡ true) × (n ≡ length (spell m)) × (n ≤ length out))
   pub heard-as-asked : (m : Message) (out : List ℕ) (n : ℕ) → writeCall m out .outcome ≡ gave n → heard (take n (writeCall m out .buffer)) ≡ m ∷ []
   pub none-open : (m : Message) (out : List ℕ) (n : ℕ) → writeCall m out .outcome ≡ gave n → openAfter none (take n (writeCall m out .buffer)) ≡ none
 
--- "our reader reads every reply as the answer the card gave"
-pub record ReplyRead : Type 0 where
-  pub is-spelling : (bench maker : List ℤ) (c : Card) (values : List ℤ) (w : ℕ) (a : Answer) → saidTo bench maker c values w ≡ Reply a → bytesOf (turn bench maker c values w .reply) ≡ travelling (spellAnswer a)
-  pub is-read : (bench maker : List ℤ) (c : Card) (values : List ℤ) (w : ℕ) (a : Answer) → Sound bench maker c values → saidTo bench maker c values w ≡ Reply a → readCall (bytesOf (turn bench maker c values w .reply)) ≡ gave a
+-- a single word's call that is served, with what is in its buffer afterwards
+module _ (bench maker : List ℤ) (c : Card) (values : List ℤ) (w : ℕ) (out : List ℕ) where
+  abbrev pub its : After ℕ
+  its = stepCall c bench maker values w out
 
--- a sound card, sheets and values, and a word that draws these bytes as this answer
+-- "our reader reads every reply of the card as the answer it gave"; silence writes nothing
+pub record ReplyRead : Type 0 where
+  pub reads : (bench maker : List ℤ) (c : Card) (values : List ℤ) (w : ℕ) (out : List ℕ) (a : Answer) → Sound bench maker c values → w ≤ 256 → longestReply ≤ length out → saidTo bench maker c values w ≡ Reply a
+      → (its bench maker c values w out .outcome ≡ gave (length (spellAnswer a))) × (readCall (take (length (spellAnswer a)) (its bench maker c values w out .buffer)) ≡ gave a)
+  pub silent : (bench maker : List ℤ) (c : Card) (values : List ℤ) (w : ℕ) (out : List ℕ) → Sound bench maker c values → w ≤ 256 → longestReply ≤ length out → saidTo bench maker c values w ≡ Silence
+      → (its bench maker c values w out .outcome ≡ gave 0) × (its bench maker c values w out .buffer ≡ out)
+
+-- a sound card, sheets and values, and a word to which the call replies with these bytes, as this answer
 pub record Drawn (bs : List ℕ) (a : Answer) : Type 0 where
   pub bench : List ℤ
   pub maker : List ℤ
   pub card : Card
   pub values : List ℤ
   pub word : ℕ
+  pub out : List ℕ
   pub sound : Sound bench maker card values
   -- the open message has its room, as every card of the code has
   pub room : length (card .pending .chars) ≡ most
   pub valid : word ≤ 256
   pub says : saidTo bench maker card values word ≡ Reply a
-  pub bytes : bytesOf (turn bench maker card values word .reply) ≡ bs
+  pub gives : its bench maker card values word out .outcome ≡ gave (length bs)
+  pub bytes : take (length bs) (its bench maker card values word out .buffer) ≡ bs
 
 -- number 6: the reader takes exactly the bytes that some sound card replies with, and as the answer that it gave
 pub record ReaderExact : Type 0 where
   pub exact : (bs : List ℕ) (a : Answer) → (readCall bs ≡ gave a) ↔ Drawn bs a
 
--- a Type 3 message that leaves this offer
+-- ---- offers
+
+-- a sound card with nothing on offer, sound values, and a word that closes a Type 3 message and leaves this offer
 pub record LeftBy (bench maker : List ℤ) (o : Offer) : Type 0 where
-  pub letter : ℕ
-  pub address : ℕ
-  pub held : Offer
+  pub card : Card
   pub values : List ℤ
+  pub word : ℕ
+  pub out : List ℕ
   pub message : Message
-  pub number : ℤ
-  pub decimals : ℕ
-  pub is-message : isMessage message ≡ true
-  pub is-type-3 : message .body ≡ Set number decimals
-  pub leaves : act bench maker letter address held values message .offer ≡ o
+  pub number : Decimal
+  pub bytes : ℕ
+  pub sound : Sound bench maker card values
+  pub nothing-before : card .offer ≡ Nothing
+  pub closes : hear (card .pending) word .message ≡ Heard message
+  pub is-type-3 : message .body ≡ Set number
+  pub gives : its bench maker card values word out .outcome ≡ gave bytes
+  pub leaves : its bench maker card values word out .card .offer ≡ o
 
--- number 1: an offer is sound exactly when a Type 3 can leave it under these sheets
+-- number 1: under sound sheets an offer is sound exactly when a Type 3 can leave it
 pub record OfferReachable : Type 0 where
-  pub reachable : (bench maker : List ℤ) (i : ℕ) (z : ℤ) → (soundOffer bench maker (Held i z) ≡ true) ↔ LeftBy bench maker (Held i z)
-
--- a word leaves a sound card with sound values sound, and every place without a row as it was
-pub record StaysSound : Type 0 where
-  pub stays : (bench maker : List ℤ) (c : Card) (values : List ℤ) (w : ℕ) → Sound bench maker c values → Sound bench maker (turn bench maker c values w .card) (stored values (turn bench maker c values w .store))
-  pub untouched : (bench maker : List ℤ) (c : Card) (values : List ℤ) (w i : ℕ) → Sound bench maker c values → entryIn bench maker i ≡ Missing → getD (stored values (turn bench maker c values w .store)) i (pos 0) ≡ getD values i (pos 0)
+  pub reachable : (bench maker : List ℤ) → (soundSheet bench && soundSheet maker) ≡ true → (i : ℕ) (z : ℤ) → (soundOffer bench maker (Held i z) ≡ true) ↔ LeftBy bench maker (Held i z)
 
 -- what is offered for a number n is a multiple of the row's step, not above n, and no multiple lies between
 pub record NotAbove (n z : ℤ) (r : Row) : Type 0 where
@@ -92,13 +105,42 @@ pub record NotAbove (n z : ℤ) (r : Row) : Type 0 where
   pub none-between : (y : ℤ) → isMultiple y (r .step) ≡ true → leZ y n ≡ true → leZ y z ≡ true
 
 pub record NeverUp : Type 0 where
-  pub never-up : (bench maker : List ℤ) (letter address : ℕ) (o : Offer) (values : List ℤ) (m : Message) (n : ℤ) (d : ℕ) (z : ℤ) (r : Row) → entryIn bench maker (m .identifier) ≡ Found r → m .body ≡ Set n d
-      → act bench maker letter address o values m .offer ≡ Held (m .identifier) z → NotAbove n z r
+  pub never-up : (bench maker : List ℤ) (c : Card) (values : List ℤ) (w : ℕ) (out : List ℕ) (k : ℕ) (m : Message) (x : Decimal) (z : ℤ) (r : Row) → its bench maker c values w out .outcome ≡ gave k
+      → hear (c .pending) w .message ≡ Heard m → m .body ≡ Set x → entryIn bench maker (m .identifier) ≡ Found r → its bench maker c values w out .card .offer ≡ Held (m .identifier) z → NotAbove (x .number) z r
 
--- a run of words is the single words one after the other: s is the single word's call, with room for any reply
+-- ---- words
+
+-- a word leaves a sound card with sound values sound, and every place without a row as it was
+pub record StaysSound : Type 0 where
+  pub stays : (bench maker : List ℤ) (c : Card) (values : List ℤ) (w : ℕ) (out : List ℕ) → Sound bench maker c values → Sound bench maker (its bench maker c values w out .card) (its bench maker c values w out .values)
+  pub untouched : (bench maker : List ℤ) (c : Card) (values : List ℤ) (w : ℕ) (out : List ℕ) (i : ℕ) → Sound bench maker c values → entryIn bench maker i ≡ Missing → getD (its bench maker c values w out .values) i (pos 0) ≡ getD values i (pos 0)
+
+-- one word and so many bytes more than a run took
+abbrev pub oneMore : ℕ → Outcome Took → Outcome Took
+oneMore n (refused k) = refused k
+oneMore n (gave t) = gave (record { words = suc (t .words); bytes = n + t .bytes })
+
+-- a run that takes no word
+abbrev pub takesNone : Card → List ℤ → List ℕ → After Took
+takesNone c values out = record { card = c; outcome = gave (record { words = 0; bytes = 0 }); values = values; buffer = out }
+
+-- document 01: "A run takes words until all are taken or the next word's reply no longer fits": a run is the single word's call, with room
+-- for any reply, and then the run of the other words from what that call left, in what is left of the buffer
 pub record RunSteps : Type 0 where
-  pub steps : (bench maker : List ℤ) (c : Card) (values : List ℤ) (room w : ℕ) (ws out : List ℕ) → Sound bench maker c values → w ≤ 256 → longest ≤ length out
-      → let s : Step = stepCall c bench maker values w out in
-      let n : ℕ = length (bytesOf (turn bench maker c values w .reply)) in
-      (s .outcome ≡ gave n)
-      × (play bench maker c values room (w ∷ ws) ≡ cond (leb n room) (after (take n (s .buffer)) (play bench maker (s .card) (s .values) (room - n) ws)) (stopped c values))
+  pub ends : (bench maker : List ℤ) (c : Card) (values : List ℤ) (out : List ℕ) → Sound bench maker c values → runCall c bench maker values [] out ≡ takesNone c values out
+  pub takes : (bench maker : List ℤ) (c : Card) (values : List ℤ) (w : ℕ) (ws out room : List ℕ) (n : ℕ) → Sound bench maker c values → validWords (w ∷ ws) ≡ true → its bench maker c values w room .outcome ≡ gave n → n ≤ length out
+      → let s : After ℕ = its bench maker c values w room in
+      let r : After Took = runCall (s .card) bench maker (s .values) ws (drop n out) in
+      runCall c bench maker values (w ∷ ws) out ≡ record { card = r .card; outcome = oneMore n (r .outcome); values = r .values; buffer = take n (s .buffer) ++ r .buffer }
+  pub stops : (bench maker : List ℤ) (c : Card) (values : List ℤ) (w : ℕ) (ws out room : List ℕ) (n : ℕ) → Sound bench maker c values → validWords (w ∷ ws) ≡ true → its bench maker c values w room .outcome ≡ gave n → length out < n
+      → runCall c bench maker values (w ∷ ws) out ≡ takesNone c values out
+
+-- all of them
+pub record Demand2 : Type 0 where
+  pub writer-heard : WriterHeard
+  pub reply-read : ReplyRead
+  pub reader-exact : ReaderExact
+  pub offer-reachable : OfferReachable
+  pub never-up : NeverUp
+  pub stays-sound : StaysSound
+  pub run-steps : RunSteps

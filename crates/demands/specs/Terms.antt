@@ -2,17 +2,15 @@
 use mathlib.Core.Path.{_≡_}
 use mathlib.Core.Bool.{true, _&&_}
 use mathlib.Core.List.{List, [], _∷_, _++_}
-use Prim.Native.Nat.{ℕ, _≤_}
+use Prim.Native.Nat.{ℕ}
 use lib.IntN.{ℤ}
-use lib.ListN.{length}
-use Rattle.wire.specs.Line.{bytesOf}
 use Rattle.hearing.specs.Hearing.{hear}
 use Rattle.sheet.specs.Sheet.{soundSheet}
 use Rattle.sheet.specs.Values.{soundValues}
 use Rattle.act.specs.declared.Said.{Said}
 use Rattle.card.specs.declared.Card.{Card}
 use Rattle.card.specs.Turn.{Turn, effectOf, turn, stored}
-use Rattle.card.specs.Sound.{soundCard, soundOffer}
+use Rattle.card.specs.Refusals.{soundCard, soundOffer}
 
 -- document 01: "A card, sheets and values are sound where numbers 1, 2 and 3 don't hold of them."
 pub record Sound (bench maker : List ℤ) (c : Card) (values : List ℤ) : Type 0 where
@@ -23,11 +21,11 @@ pub record Sound (bench maker : List ℤ) (c : Card) (values : List ℤ) : Type 
 
 -- what the card says to a word
 unfoldable pub saidTo : List ℤ → List ℤ → Card → List ℤ → ℕ → Said
-saidTo bench maker c values w = effectOf bench maker c values (hear (c .pending) w .message) .said
+saidTo bench maker c values w = effectOf bench maker (c .setup) (c .offer) values (hear (c .pending) w .message) .said
 
 -- document 01: "Each word meets the card and values that the word before it left": all the replies together
 unfoldable pub replies : List ℤ → List ℤ → Card → List ℤ → List ℕ → List ℕ
 replies bench maker c values [] = []
 replies bench maker c values (w ∷ ws) =
     let t : Turn = turn bench maker c values w in
-    bytesOf (t .reply) ++ replies bench maker (t .card) (stored values (t .store)) ws
+    t .reply ++ replies bench maker (t .card) (stored values (t .store)) ws

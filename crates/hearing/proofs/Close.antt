@@ -1,6 +1,6 @@
 -- Words up to one that closes the open message: what each of them does, and that nothing is heard on the way. Assumes nothing.
 use mathlib.Core.Path.{_≡_, refl, sym, ap, _∙_, subst}
-use mathlib.Core.Bool.{Bool, true, false, cond, false≢true}
+use mathlib.Core.Bool.{Bool, true, false, false≢true}
 use mathlib.Core.List.{List, [], _∷_}
 use Prim.Native.Nat.{ℕ, suc, _+_, _<_, _≤_}
 use native.Mathlib.Numerals.{add-one}
@@ -11,7 +11,7 @@ use lib.ListN.{length, getD, drop, drop-of-length-le, length-set}
 use lib.Seq.{drop-cons}
 use Rattle.refusal.proofs.Logic.{choice}
 use Rattle.message.specs.declared.Parsed.the-variants.{Unheard}
-use Rattle.message.specs.Scan.{parse}
+use Rattle.message.specs.Prefix.{parse}
 use Rattle.hearing.specs.declared.Pending.{Pending}
 use Rattle.hearing.specs.declared.Action.{Action}
 use Rattle.hearing.specs.declared.Action.the-variants.{Ignore, Open, Add, Close, Drop}
@@ -88,8 +88,8 @@ nil-cons {x} {xs} e = let n : 0 ≡ length (x ∷ xs) = ap length e in omega ari
 
 module _ (ws : List ℕ) where
   -- the first of the words from a place on
-  pub first : (i x : ℕ) (rest : List ℕ) → drop i ws ≡ x ∷ rest → (i < length ws) × (x ≡ getD ws i 0) × (rest ≡ drop (i + 1) ws)
-  first i x rest e = go (ltb i (length ws)) refl
+  pub word-at : (i x : ℕ) (rest : List ℕ) → drop i ws ≡ x ∷ rest → (i < length ws) × (x ≡ getD ws i 0) × (rest ≡ drop (i + 1) ws)
+  word-at i x rest e = go (ltb i (length ws)) refl
     where
       go : (b : Bool) → ltb i (length ws) ≡ b → (i < length ws) × (x ≡ getD ws i 0) × (rest ≡ drop (i + 1) ws)
       go true t =
@@ -105,7 +105,7 @@ module _ (ws : List ℕ) where
     unfolding toClose
     along [] p i e h = h
     along (x ∷ rest) p i e h =
-        let f = first i x rest e in
+        let f = word-at i x rest e in
         choice (λ (r : Reached). P (r .pending) (r .at)) (closes (actionOf p x)) (λ t. h)
         (λ t. along rest (hear p x .pending) (i + 1) (sym (f .2))
         (subst (λ (w : ℕ). P (hear p w .pending) (i + 1)) (sym (f .1)) (keeps p i (f .0) (subst (λ (w : ℕ). hear p w .message ≡ Unheard) (f .1) (other-unheard p x t)) h)))
@@ -124,7 +124,7 @@ module _ (ws : List ℕ) where
   unfolding toClose
   stops [] p i e = λ h. absurd (nil-cons (sym e ∙ drop-cons ws i 0 h))
   stops (x ∷ rest) p i e =
-      let f = first i x rest e in
+      let f = word-at i x rest e in
       choice (λ (r : Reached). r .at < length ws → actionOf (r .pending) (getD ws (r .at) 0) ≡ Close) (closes (actionOf p x))
       (λ t h. subst (λ (w : ℕ). actionOf p w ≡ Close) (f .1) (is-close (actionOf p x) t))
       (λ t. stops rest (hear p x .pending) (i + 1) (sym (f .2)))

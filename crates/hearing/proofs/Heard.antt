@@ -3,27 +3,24 @@
 use mathlib.Core.Path.{_≡_, refl, sym, ap, _∙_, subst}
 use mathlib.Core.Bool.{Bool, true, false, cond}
 use mathlib.Core.List.{List, [], _∷_, _++_, append-nil, append-assoc}
-use Prim.Native.Nat.{ℕ, suc, _+_, _<_, _≤_}
+use Prim.Native.Nat.{ℕ, _+_, _<_, _≤_}
 use native.Mathlib.Numerals.{add-one}
 use native.Mathlib.Omega.{arith}
 use borrow.Author.Tests.{lt-ltb, ne-eqb}
-use lib.Dec.{ltb, eqb, lit<}
-use lib.ListN.{length, take, set, replicate, length-append, length-set}
+use lib.Dec.{eqb, lit<}
+use lib.ListN.{length, take, set, length-append, length-set}
 use lib.Seq.{take-suc-set}
-use Rattle.refusal.proofs.Logic.{choice}
-use Rattle.wire.specs.declared.Received.{Received}
-use Rattle.wire.specs.declared.Received.the-variants.{Character, Nothing}
-use Rattle.wire.specs.Word.{withParity, received, travelling}
+use Rattle.wire.specs.Word.{withParity, travelling}
 use Rattle.wire.proofs.Words.{travels, travelling-append}
 use Rattle.message.specs.declared.Message.{Message}
 use Rattle.message.specs.declared.Parsed.{Parsed}
 use Rattle.message.specs.declared.Parsed.the-variants.{Heard, Unheard}
 use Rattle.message.specs.Message.{star, isLetter, isMessage}
-use Rattle.message.specs.Scan.{parse}
-use Rattle.message.specs.Spell.{spellAddress, spellBody, spellOpen, spell}
-use Rattle.message.proofs.Messages.{Parts, parts, PlainChar, Plain, plain-letter}
+use Rattle.message.specs.Prefix.{parse}
+use Rattle.message.specs.Spell.{spellAddress, spellBody, spell}
+use Rattle.message.proofs.Messages.{parts, PlainChar, Plain, plain-letter}
 use Rattle.message.proofs.Reading.{Heard-is, parse-spell, parse-message}
-use Rattle.message.proofs.Spelling.{plain-rest, open-length}
+use Rattle.message.proofs.Spelling.{plain-rest, open-first, open-length}
 use Rattle.hearing.specs.declared.Pending.{Pending}
 use Rattle.hearing.specs.declared.Action.{Action}
 use Rattle.hearing.specs.declared.Action.the-variants.{Ignore, Open, Add, Close, Drop}
@@ -32,22 +29,22 @@ use Rattle.hearing.specs.Hearing.{most, none, added, openOf, opening, co
 
 -- ---- the open message as a list of characters
 
-pub record Holds (p : Pending) (cs : List ℕ) : Type 0 where
+pub record OpenChars (p : Pending) (cs : List ℕ) : Type 0 where
   pub len-is : p .len ≡ length cs
   pub open-is : openOf p ≡ cs
   pub room : length (p .chars) ≡ most
 
-pub none-holds : Holds none []
+pub none-holds : OpenChars none []
 unfolding none openOf
 none-holds = record { len-is = refl; open-is = refl; room = refl }
 
-pub added-holds : (p : Pending) (cs : List ℕ) (c : ℕ) → Holds p cs → length cs < most → Holds (added p c) (cs ++ (c ∷ []))
+pub added-holds : (p : Pending) (cs : List ℕ) (c : ℕ) → OpenChars p cs → length cs < most → OpenChars (added p c) (cs ++ (c ∷ []))
 unfolding added openOf
 added-holds p cs c h l =
     let n : p .len ≡ length cs = h .len-is in
     let r : length (p .chars) ≡ most = h .room in
     let in′ : p .len < length (p .chars) = omega arith in
-    subst (λ (x : Pending). Holds x (cs ++ (c ∷ [])))
+    subst (λ (x : Pending). OpenChars x (cs ++ (c ∷ [])))
     (sym (ap (λ (b : Bool). cond b (record { chars = set (p .chars) (p .len) c; len = p .len + 1 }) none) (lt-ltb (p .len) most (omega arith))))
     (record {
       len-is = omega (arith, length-append cs (c ∷ []));
@@ -117,18 +114,18 @@ unheard p w ws q e = record {
 -- plain characters are added to the open message
 pub record Adds (p : Pending) (cs ds rest : List ℕ) : Type 0 where
   pub last : Pending
-  pub holds : Holds last (cs ++ ds)
+  pub holds : OpenChars last (cs ++ ds)
   pub leads : Leads p (travelling ds ++ rest) last rest
 
-adds : (p : Pending) (cs ds rest : List ℕ) → Holds p cs → 1 ≤ length cs → length cs + length ds ≤ most → Plain ds → Adds p cs ds rest
+adds : (p : Pending) (cs ds rest : List ℕ) → OpenChars p cs → 1 ≤ length cs → length cs + length ds ≤ most → Plain ds → Adds p cs ds rest
 unfolding travelling
-adds p cs [] rest h o l q = record { last = p; holds = subst (Holds p) (sym (append-nil cs)) h; leads = record { hears = refl; opens = refl } }
+adds p cs [] rest h o l q = record { last = p; holds = subst (OpenChars p) (sym (append-nil cs)) h; leads = record { hears = refl; opens = refl } }
 adds p cs (d ∷ ds) rest h o l q =
     let k : p .len ≡ length cs = h .len-is in
     let a = adds (added p d) (cs ++ (d ∷ [])) ds rest (added-holds p cs d h (omega arith)) (omega (arith, length-append cs (d ∷ []))) (omega (arith, length-append cs (d ∷ []))) (q .1) in
     record {
       last = a .last;
-      holds = subst (Holds (a .last)) (append-assoc cs (d ∷ []) ds) (a .holds);
+      holds = subst (OpenChars (a .last)) (append-assoc cs (d ∷ []) ds) (a .holds);
       leads = then (unheard p (withParity d) (travelling ds ++ rest) (added p d) (hear-add p (omega arith) d (q .0))) (a .leads);
     }
 
@@ -136,10 +133,11 @@ adds p cs (d ∷ ds) rest h o l q =
 
 -- its words, the letter's and the star's apart
 words-of : (m : Message) (rest : List ℕ) → travelling (spell m) ++ rest ≡ withParity (m .letter) ∷ (travelling (spellAddress (m .address) ++ (m .identifier ∷ spellBody (m .body))) ++ (withParity star ∷ rest))
-unfolding spell spellOpen travelling
+unfolding spell travelling
 words-of m rest =
     let cs = spellAddress (m .address) ++ (m .identifier ∷ spellBody (m .body)) in
-    ap (λ (l : List ℕ). withParity (m .letter) ∷ (l ++ rest)) (travelling-append cs (star ∷ []))
+    ap (λ (l : List ℕ). travelling (l ++ (star ∷ [])) ++ rest) (open-first m)
+    ∙ ap (λ (l : List ℕ). withParity (m .letter) ∷ (l ++ rest)) (travelling-append cs (star ∷ []))
     ∙ ap (λ (l : List ℕ). withParity (m .letter) ∷ l) (append-assoc (travelling cs) (withParity star ∷ []) rest)
 
 -- the letter opens, the characters behind it are added, and the star closes
@@ -148,18 +146,18 @@ pub record Spelled (m : Message) (rest : List ℕ) : Type 0 where
   pub opens : openAfter none (travelling (spell m) ++ rest) ≡ openAfter none rest
 
 pub spelled : (m : Message) (rest : List ℕ) → isMessage m ≡ true → Spelled m rest
-unfolding heardFrom openAfter before spellOpen
+unfolding heardFrom openAfter before
 spelled m rest e =
     let p = parts m e in
     let cs = spellAddress (m .address) ++ (m .identifier ∷ spellBody (m .body)) in
     let ends = withParity star ∷ rest in
     let opened = unheard none (withParity (m .letter)) (travelling cs ++ ends) (added none (m .letter)) (hear-open (m .letter) (p .is-letter)) in
-    let a = adds (added none (m .letter)) (m .letter ∷ []) cs ends (added-holds none [] (m .letter) none-holds (lit< tt)) (omega arith) (omega (arith, open-length m)) (plain-rest m p) in
+    let a = adds (added none (m .letter)) (m .letter ∷ []) cs ends (added-holds none [] (m .letter) none-holds (lit< tt)) (omega arith) (omega (arith, open-length m, ap length (open-first m))) (plain-rest m p) in
     let q = a .last in
     let n : q .len ≡ length (m .letter ∷ cs) = a .holds .len-is in
     let l = then opened (a .leads) in
     let s : hear q (withParity star) ≡ record { pending = none; message = Heard m }
-    = hear-star q (omega arith) ∙ ap (λ (x : Parsed). record { pending = none; message = x }) (ap parse (a .holds .open-is) ∙ parse-spell m e) in
+    = hear-star q (omega arith) ∙ ap (λ (x : Parsed). record { pending = none; message = x }) (ap parse (a .holds .open-is ∙ sym (open-first m)) ∙ parse-spell m e) in
     record {
       hears = ap (heardFrom none) (words-of m rest) ∙ l .hears ∙ ap (λ (h : Hearing). before (h .message) (heardFrom (h .pending) rest)) s;
       opens = ap (openAfter none) (words-of m rest) ∙ l .opens ∙ ap (λ (h : Hearing). openAfter (h .pending) rest) s;

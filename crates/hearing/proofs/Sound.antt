@@ -10,15 +10,17 @@ use borrow.Author.Tests.{ltb-true, leb-true, le-leb, eqb-false, ne-eqb, lt-ltb}
 use lib.Dec.{ltb, eqb, lit≤}
 use lib.ListN.{length, getD, set, take, drop, replicate, length-append, length-drop}
 use lib.Seq.{drop-set-lt, getD-set-other, take-append-seam, drop-append-seam}
+use Rattle.refusal.specs.Lists.{every}
 use Rattle.refusal.proofs.Logic.{ands, and-both, is-not, choice}
+use Rattle.refusal.proofs.Lists.{every-none, every-first, every-set, every-drop, every-replicate}
 use Rattle.wire.specs.declared.Received.{Received}
 use Rattle.wire.specs.declared.Received.the-variants.{Character, Nothing}
-use Rattle.wire.specs.Word.{withParity, received, every}
-use Rattle.wire.proofs.Words.{received-small, every-none, every-first, every-set, every-drop, every-replicate}
+use Rattle.wire.specs.Word.{withParity, received}
+use Rattle.wire.proofs.Words.{received-small}
 use Rattle.message.specs.declared.Message.{Message}
 use Rattle.message.specs.declared.Parsed.the-variants.{Heard}
 use Rattle.message.specs.Message.{star, isLetter, isMessage}
-use Rattle.message.specs.Scan.{parse}
+use Rattle.message.specs.Prefix.{parse}
 use Rattle.message.specs.Spell.{spellAddress, spellBody, spellOpen}
 use Rattle.message.proofs.Messages.{parts, PlainChar, Plain, plain-letter}
 use Rattle.message.proofs.Reading.{parse-spell}
@@ -28,7 +30,7 @@ use Rattle.hearing.specs.declared.Action.{Action}
 use Rattle.hearing.specs.declared.Hearing.{Hearing}
 use Rattle.hearing.specs.Hearing.{most, none, added, openOf, opening, continuing, actionOf, perform, hear}
 use Rattle.hearing.specs.Sound.{plainChar, plain, zeros, soundPending}
-use Rattle.hearing.proofs.Heard.{Holds, hear-star}
+use Rattle.hearing.proofs.Heard.{OpenChars, hear-star}
 
 -- ---- a sound open message, by its rules
 
@@ -53,10 +55,10 @@ plain-is c p = and-both (lt-ltb c 128 (p .small)) (is-not (p .no-star))
 -- ---- characters in an open message
 
 -- these characters, and zeros behind them
-abbrev pub pendingOf : List ℕ → Pending
-pendingOf cs = record { chars = cs ++ drop (length cs) (replicate most 0); len = length cs }
+abbrev pub pendingWith : List ℕ → Pending
+pendingWith cs = record { chars = cs ++ drop (length cs) (replicate most 0); len = length cs }
 
-pub pending-holds : (cs : List ℕ) → length cs ≤ most → Holds (pendingOf cs) cs
+pub pending-holds : (cs : List ℕ) → length cs ≤ most → OpenChars (pendingWith cs) cs
 unfolding openOf
 pending-holds cs h =
     let zero : List ℕ = replicate most 0 in
@@ -70,11 +72,11 @@ all-plain : (cs : List ℕ) → Plain cs → every plainChar cs ≡ true
 all-plain [] h = every-none plainChar
 all-plain (c ∷ cs) h = every-first plainChar c cs (plain-is c (h .0)) (all-plain cs (h .1))
 
-pub pending-sound : (c : ℕ) (cs : List ℕ) → isLetter c ≡ true → Plain cs → length (c ∷ cs) ≤ most → soundPending (pendingOf (c ∷ cs)) ≡ true
+pub pending-sound : (c : ℕ) (cs : List ℕ) → isLetter c ≡ true → Plain cs → length (c ∷ cs) ≤ most → soundPending (pendingWith (c ∷ cs)) ≡ true
 pending-sound c cs e p h =
     let ds = c ∷ cs in
     let behind : List ℕ = drop (length ds) (replicate most 0) in
-    parts-pending (pendingOf ds) (record {
+    parts-pending (pendingWith ds) (record {
       short = h;
       is-plain = ap (every plainChar) (take-append-seam ds behind) ∙ all-plain ds (plain-letter c e, p);
       is-zero = ap (every (λ (c : ℕ). eqb c 0)) (drop-append-seam ds behind) ∙ every-replicate (λ (c : ℕ). eqb c 0) 0 refl (length ds) most;
@@ -84,15 +86,15 @@ pending-sound c cs e p h =
 -- ---- a message that is open but for its `*`
 
 module _ (m : Message) (e : isMessage m ≡ true) where
-  pub spelled-sound : soundPending (pendingOf (spellOpen m)) ≡ true
+  pub spelled-sound : soundPending (pendingWith (spellOpen m)) ≡ true
   spelled-sound =
       let p = parts m e in
       let h = open-length m in
       rw (open-first m) (pending-sound (m .letter) (spellAddress (m .address) ++ (m .identifier ∷ spellBody (m .body))) (p .is-letter) (plain-rest m p) (rw (open-first m) at h))
 
-  pub spelled-closed : hear (pendingOf (spellOpen m)) (withParity star) .message ≡ Heard m
+  pub spelled-closed : hear (pendingWith (spellOpen m)) (withParity star) .message ≡ Heard m
   spelled-closed =
-      ap (λ (h : Hearing). h .message) (hear-star (pendingOf (spellOpen m)) (omega (arith, ap length (open-first m))))
+      ap (λ (h : Hearing). h .message) (hear-star (pendingWith (spellOpen m)) (omega (arith, ap length (open-first m))))
       ∙ ap parse (pending-holds (spellOpen m) (open-length m) .open-is)
       ∙ parse-spell m e
 

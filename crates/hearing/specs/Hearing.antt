@@ -1,5 +1,5 @@
 -- Hearing: what one word does to the open message, and the messages heard in a list of words.
-use mathlib.Core.Bool.{Bool, true, false, cond, _&&_}
+use mathlib.Core.Bool.{Bool, true, false, cond}
 use mathlib.Core.List.{List, [], _∷_}
 use Prim.Native.Nat.{ℕ, _+_}
 use lib.Dec.{ltb, eqb}
@@ -11,13 +11,13 @@ use Rattle.message.specs.declared.Message.{Message}
 use Rattle.message.specs.declared.Parsed.{Parsed}
 use Rattle.message.specs.declared.Parsed.the-variants.{Heard, Unheard}
 use Rattle.message.specs.Message.{star, isLetter}
-use Rattle.message.specs.Scan.{parse}
+use Rattle.message.specs.Prefix.{parse}
 use Rattle.hearing.specs.declared.Pending.{Pending}
 use Rattle.hearing.specs.declared.Action.{Action}
 use Rattle.hearing.specs.declared.Action.the-variants.{Ignore, Open, Add, Close, Drop}
 use Rattle.hearing.specs.declared.Hearing.{Hearing}
 use Rattle.hearing.specs.declared.Next.{Next}
-use Rattle.hearing.specs.declared.Stop.{Stop}
+use Rattle.hearing.specs.declared.Halt.{Halt}
 
 -- document 01: "A message holds at most 10 characters before `*`"
 abbrev pub most : ℕ
@@ -102,43 +102,13 @@ pub record Reached : Type 0 where
   pub at : ℕ
 
 -- as the code answers it, the characters being in their place
-abbrev pub stopOf : Reached → Stop
-stopOf r = record { len = r .pending .len; at = r .at }
+abbrev pub haltOf : Reached → Halt
+haltOf r = record { len = r .pending .len; at = r .at }
 
 -- up to a word that closes the open message, or behind the last
 unfoldable pub toClose : Pending → List ℕ → ℕ → Reached
 toClose p [] at = record { pending = p; at = at }
 toClose p (w ∷ ws) at = cond (closes (actionOf p w)) (record { pending = p; at = at }) (toClose (hear p w .pending) ws (at + 1))
-
--- a letter with no message open
-abbrev pub opens : Action → Bool
-opens Ignore = false
-opens (Open c) = true
-opens (Add c) = false
-opens Close = false
-opens Drop = false
-
--- up to a word that opens a message where none is open, or behind the last: its place
-unfoldable pub toLetter : List ℕ → ℕ → ℕ
-toLetter [] at = at
-toLetter (w ∷ ws) at = cond (opens (opening (received w))) at (toLetter ws (at + 1))
-
--- a character for an open message
-abbrev pub adds : Action → Bool
-adds Ignore = false
-adds (Open c) = false
-adds (Add c) = true
-adds Close = false
-adds Drop = false
-
--- whether the word adds a character to the open message, and there is a place for it
-abbrev pub grows : Pending → ℕ → Bool
-grows p w = adds (continuing (received w)) && ltb (p .len) most
-
--- up to a word that adds none, or behind the last
-unfoldable pub grown : Pending → List ℕ → ℕ → Reached
-grown p [] at = record { pending = p; at = at }
-grown p (w ∷ ws) at = cond (grows p w) (grown (hear p w .pending) ws (at + 1)) (record { pending = p; at = at })
 
 -- document 01: "The messages heard in a recording are those heard when its words are taken in order, with none open before its
 -- first word, whatever their letter and address."

@@ -1,3 +1,4 @@
 pub mod Hearing
+pub mod Inner
 pub mod Normal
 pub mod Sound

@@ -4,7 +4,7 @@ use mathlib.Core.List.{List}
 use Prim.Native.Nat.{ℕ}
 use lib.Dec.{ltb, leb, eqb}
 use lib.ListN.{getD, take, drop}
-use Rattle.wire.specs.Word.{every}
+use Rattle.refusal.specs.Lists.{every}
 use Rattle.message.specs.Message.{star, isLetter}
 use Rattle.hearing.specs.declared.Pending.{Pending}
 use Rattle.hearing.specs.Hearing.{most}

@@ -4,12 +4,13 @@ ghost use Prim.Native.Nat.{_≤_};
 ghost use lib.ListN.{take, drop};
 ghost use mathlib.Core.Bool.{cond};
 ghost use lib.Dec.{eqb};
-ghost use Rattle.refusal.specs.Refusal.{outcomeOf};
+ghost use Rattle.refusal.specs.Call.{callOf};
 ghost use Rattle.wire.specs.Word.{received};
-ghost use Rattle.hearing.specs.Hearing.{none, added, openOf, opening, continuing, actionOf, perform, hear, nextOf, charsOf, stopOf, toClose, toLetter, grown};
+ghost use Rattle.hearing.specs.Hearing.{none, added, openOf, opening, continuing, actionOf, hear, nextOf, charsOf, haltOf, toClose};
+ghost use Rattle.hearing.specs.Inner.{isOpening, toLetter, toEnd};
 ghost use Rattle.hearing.specs.Sound.{plain, zeros, soundPending};
 ghost use Rattle.hearing.specs.Normal.{normalCall};
-ghost use Rattle.message.specs.Scan.{parse};
+ghost use Rattle.message.specs.Prefix.{parse};
 use message::Parsed;
 use refusal::Refusal;
 use refusal::Written;
@@ -88,10 +89,7 @@ impl Pending {
         if MOST < len {
             return false;
         }
-        if !(plain(&chars[..len]) & zeros(&chars[len..])) {
-            return false;
-        }
-        (len == 0) | message::is_letter(chars[0])
+        plain(&chars[..len]) & zeros(&chars[len..]) & ((len == 0) | message::is_letter(chars[0]))
     }
 }
 
@@ -162,7 +160,7 @@ pub fn hear(pending: Pending, word: u16) -> Hearing
 }
 
 // Where a hearing stands: the count of open characters, and the place of the next word.
-pub struct Stop {
+pub struct Halt {
     pub len: usize,
     pub at: usize,
 }
@@ -224,14 +222,23 @@ pub fn take(chars: &mut [u8; MOST], len: usize, word: u16) -> Next
     }
 }
 
-// The place of the next letter in good parity: `L` is CC on the line, `R` is D2.
+// Whether the word is a letter in good parity.
+fn is_opening(word: u16) -> bool
+    ensures { λ r. ⌜ r ≡ isOpening (received word) ⌝ }
+{
+    let Received::Character(c) = wire::receive(word) else {
+        return false;
+    };
+    message::is_letter(c)
+}
+
+// The place of the next letter in good parity.
 fn to_letter(words: &[u16], from: usize) -> usize
     ensures { λ r. ⌜ r ≡ toLetter (drop from (now (words .entry))) from ⌝ }
 {
     let mut at = from;
     while at < words.len() {
-        let word = words[at];
-        if (word == 204) | (word == 210) {
+        if is_opening(words[at]) {
             break;
         }
         at += 1;
@@ -239,34 +246,36 @@ fn to_letter(words: &[u16], from: usize) -> usize
     at
 }
 
-// Adds characters to an open message as long as there are any and places for them.
-fn add_all(chars: &mut [u8; MOST], len: usize, words: &[u16], from: usize) -> Stop
+// Takes the words of an open message: up to its `*`, which is left, or behind a word that drops it.
+fn to_end(chars: &mut [u8; MOST], len: usize, words: &[u16], from: usize) -> Halt
     requires { ⌜ 1 ≤ len ⌝ }
-    ensures { λ r. ⌜ (r ≡ stopOf (grown (record { chars = now (chars .entry); len = len }) (drop from (now (words .entry))) from)) × (now (chars .exit) ≡ grown (record { chars = now (chars .entry); len = len }) (drop from (now (words .entry))) from .pending .chars) ⌝ }
+    ensures { λ r. ⌜ (r ≡ haltOf (toEnd (record { chars = now (chars .entry); len = len }) (drop from (now (words .entry))) from)) × (now (chars .exit) ≡ toEnd (record { chars = now (chars .entry); len = len }) (drop from (now (words .entry))) from .pending .chars) ⌝ }
 {
     let mut len = len;
     let mut at = from;
     while at < words.len() {
+        let next = at + 1;
         let Received::Character(c) = wire::receive(words[at]) else {
-            break;
+            *chars = [0u8; MOST];
+            return Halt { len: 0, at: next };
         };
         if c == b'*' {
             break;
         }
         if MOST <= len {
-            break;
+            *chars = [0u8; MOST];
+            return Halt { len: 0, at: next };
         }
         chars[len] = c;
         len += 1;
-        at += 1;
+        at = next;
     }
-    Stop { len, at }
+    Halt { len, at }
 }
 
-// Takes the words from a place on, up to a `*` that closes the open message: that one, AA on the line, is left. No message is heard on
-// the way.
-pub fn to_close(chars: &mut [u8; MOST], len: usize, words: &[u16], from: usize) -> Stop
-    ensures { λ r. ⌜ (r ≡ stopOf (toClose (record { chars = now (chars .entry); len = len }) (drop from (now (words .entry))) from)) × (now (chars .exit) ≡ toClose (record { chars = now (chars .entry); len = len }) (drop from (now (words .entry))) from .pending .chars) ⌝ }
+// Takes the words from a place on, up to a `*` that closes the open message: that one is left. No message is heard on the way.
+pub fn to_close(chars: &mut [u8; MOST], len: usize, words: &[u16], from: usize) -> Halt
+    ensures { λ r. ⌜ (r ≡ haltOf (toClose (record { chars = now (chars .entry); len = len }) (drop from (now (words .entry))) from)) × (now (chars .exit) ≡ toClose (record { chars = now (chars .entry); len = len }) (drop from (now (words .entry))) from .pending .chars) ⌝ }
 {
     let mut len = len;
     let mut at = from;
@@ -274,7 +283,7 @@ pub fn to_close(chars: &mut [u8; MOST], len: usize, words: &[u16], from: usize) 
         if len == 0 {
             at = to_letter(words, at);
             if words.len() <= at {
-                return Stop { len, at };
+                break;
             }
             *chars = [0u8; MOST];
             chars[0] = (words[at] % 128) as u8;
@@ -282,20 +291,14 @@ pub fn to_close(chars: &mut [u8; MOST], len: usize, words: &[u16], from: usize) 
             at += 1;
             continue;
         }
-        let more = add_all(chars, len, words, at);
-        at = more.at;
-        len = more.len;
-        if words.len() <= at {
-            return Stop { len, at };
+        let end = to_end(chars, len, words, at);
+        len = end.len;
+        at = end.at;
+        if len != 0 {
+            break;
         }
-        if words[at] == 170 {
-            return Stop { len, at };
-        }
-        *chars = [0u8; MOST];
-        len = 0;
-        at += 1;
     }
-    Stop { len, at }
+    Halt { len, at }
 }
 
 // The message that the first so many characters are.
@@ -310,8 +313,7 @@ pub fn closed(chars: &[u8], len: usize) -> Parsed
 
 // The normal form of a recording.
 pub fn normal_form(words: &[u16], out: &mut [u16]) -> Written
-    ensures answers { λ r. ⌜ outcomeOf r ≡ normalCall (now (words .entry)) (now (out .entry)) .outcome ⌝ }
-    ensures leaves { λ r. ⌜ now (out .exit) ≡ normalCall (now (words .entry)) (now (out .entry)) .buffer ⌝ }
+    ensures { λ r. ⌜ callOf r (now (out .exit)) ≡ normalCall (now (words .entry)) (now (out .entry)) ⌝ }
 {
     if !wire::valid_words(words) {
         return Written::Refused(Refusal::WordAbove256);

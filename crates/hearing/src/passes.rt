@@ -3,11 +3,14 @@ ghost use mathlib.Core.Path.{_≡_};
 ghost use Prim.Native.Nat.{_+_, _≤_};
 ghost use lib.ListN.{length};
 ghost use lib.Dec.{leb};
-ghost use Rattle.refusal.specs.Call.{laid};
-ghost use Rattle.wire.specs.Line.{placed};
-ghost use Rattle.hearing.specs.Normal.{worth, normal};
+ghost use Rattle.refusal.specs.Buffer.{laid, placed};
+ghost use Rattle.wire.specs.Word.{travelling};
+ghost use Rattle.message.specs.Spell.{kindOf, spell};
+ghost use Rattle.hearing.specs.Normal.{normal};
+ghost use Rattle.hearing.specs.Inner.{nextClosed, worth};
 use crate::MOST;
-use message::Body;
+use message::Kind;
+use message::Message;
 use message::Parsed;
 
 // The words that a heard message has in a normal form.
@@ -20,26 +23,42 @@ fn count_of(message: Parsed) -> usize
     message::spelled_len(m)
 }
 
+// A message that is closed, and the place of its `*`.
+struct Closing {
+    message: Parsed,
+    at: usize,
+}
+
+// The message that the words from a place on close first. Where they close none, the place is behind them.
+fn next_closed(words: &[u16], from: usize) -> Closing
+    ensures { λ r. ⌜ r ≡ nextClosed (now (words .entry)) from ⌝ }
+{
+    let mut chars = [0u8; MOST];
+    let halt = crate::to_close(&mut chars, 0, words, from);
+    let message = crate::closed(&chars, halt.len);
+    let at = halt.at;
+    Closing { message, at }
+}
+
 // The counting pass: whether the normal form fits the room.
 fn measure(words: &[u16], room: usize) -> bool
     ensures { λ r. ⌜ r ≡ leb (length (normal (now (words .entry)))) room ⌝ }
 {
     let mut n: usize = 0;
-    let mut i = 0;
-    while i < words.len() {
-        let mut chars = [0u8; MOST];
-        let stop = crate::to_close(&mut chars, 0, words, i);
-        let at = stop.at;
-        if words.len() <= at {
-            return true;
+    let mut from = 0;
+    while from < words.len() {
+        let closing = next_closed(words, from);
+        let message = closing.message;
+        let star = closing.at;
+        if words.len() <= star {
+            break;
         }
-        let message = crate::closed(&chars, stop.len);
         let more = count_of(message);
         if room - n < more {
             return false;
         }
         n += more;
-        i = at + 1;
+        from = star + 1;
     }
     true
 }
@@ -54,6 +73,24 @@ pub(crate) fn fits(words: &[u16], room: usize) -> bool
     measure(words, room)
 }
 
+// The words of a message with a sign, an array of five or six, into the buffer from a place on.
+fn put_sign(m: Message, sign: u8, out: &mut [u16], at: usize) -> usize
+    requires { ⌜ (kindOf (m .body) ≡ Kind.Sign sign) × (at + length (travelling (spell m)) ≤ length (now out)) ⌝ }
+    ensures { λ r. ⌜ (r ≡ at + length (travelling (spell m))) × (now (out .exit) ≡ placed (travelling (spell m)) at (now (out .entry))) ⌝ }
+{
+    let letter = m.letter;
+    let address = m.address;
+    let identifier = m.identifier;
+    if address <= 9 {
+        let bytes = message::with_one_digit(letter, 48 + address, identifier, sign);
+        return copy(&bytes, out, at);
+    }
+    let tens = 48 + address / 10;
+    let ones = 48 + address % 10;
+    let bytes = message::with_two_digits(letter, tens, ones, identifier, sign);
+    copy(&bytes, out, at)
+}
+
 // The words of a heard message into the buffer from a place on, and the place behind them.
 fn put(message: Parsed, out: &mut [u16], at: usize) -> usize
     requires { ⌜ at + length (worth message) ≤ length (now out) ⌝ }
@@ -62,39 +99,29 @@ fn put(message: Parsed, out: &mut [u16], at: usize) -> usize
     let Parsed::Heard(m) = message else {
         return at;
     };
-    let letter = m.letter;
-    let address = m.address;
-    let identifier = m.identifier;
     let body = m.body;
-    let Body::Set { number, decimals } = body else {
-        let s = message::sign(body);
-        if address <= 9 {
-            let bytes = message::with_one_digit(letter, 48 + address, identifier, s);
-            copy(&bytes, out, at);
-            return at + 5;
+    match message::kind_of(body) {
+        Kind::Sign(c) => put_sign(m, c, out, at),
+        Kind::Data(_) => {
+            let line = message::spell(m);
+            let bytes = line.bytes;
+            let len = line.len;
+            copy(&bytes[..len], out, at)
         }
-        let tens = 48 + address / 10;
-        let ones = 48 + address % 10;
-        let bytes = message::with_two_digits(letter, tens, ones, identifier, s);
-        copy(&bytes, out, at);
-        return at + 6;
-    };
-    let line = message::line_of_data(letter, address, identifier, number, decimals);
-    let bytes = line.bytes;
-    let len = line.len;
-    copy(&bytes[..len], out, at);
-    at + len
+    }
 }
 
-fn copy(bytes: &[u8], out: &mut [u16], at: usize)
+// All of the bytes into the buffer from a place on, and the place behind them.
+fn copy(bytes: &[u8], out: &mut [u16], at: usize) -> usize
     requires { ⌜ at + length (now bytes) ≤ length (now out) ⌝ }
-    ensures { λ _. ⌜ now (out .exit) ≡ placed (now (bytes .entry)) at (now (out .entry)) ⌝ }
+    ensures { λ r. ⌜ (r ≡ at + length (now (bytes .entry))) × (now (out .exit) ≡ placed (now (bytes .entry)) at (now (out .entry))) ⌝ }
 {
     let mut k = 0;
     while k < bytes.len() {
         out[at + k] = bytes[k] as u16;
         k += 1;
     }
+    at + bytes.len()
 }
 
 // The writing pass; it gives the number of words written.
@@ -105,14 +132,14 @@ pub(crate) fn fill(words: &[u16], out: &mut [u16]) -> usize
     let mut at = 0;
     let mut i = 0;
     while i < words.len() {
-        let mut chars = [0u8; MOST];
-        let stop = crate::to_close(&mut chars, 0, words, i);
-        if words.len() <= stop.at {
-            return at;
+        let closing = next_closed(words, i);
+        let message = closing.message;
+        let star = closing.at;
+        if words.len() <= star {
+            break;
         }
-        let message = crate::closed(&chars, stop.len);
         at = put(message, out, at);
-        i = stop.at + 1;
+        i = star + 1;
     }
     at
 }

@@ -90,7 +90,7 @@ fn write_last(ending: Ending, used: usize, out: &mut [u8])
 fn finish(ending: Ending, used: usize, out: &mut [u8])
     requires { ⌜ used ≤ length (now out) ⌝ }
 {
-    if listing::LONGEST <= out.len() - used {
+    if listing::LONGEST_LINE <= out.len() - used {
         write_last(ending, used, out);
         return;
     }

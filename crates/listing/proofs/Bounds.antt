@@ -7,12 +7,11 @@ use native.Mathlib.Omega.{arith}
 use borrow.Author.Tests.{leb-true, leb-false}
 use lib.Dec.{leb}
 use lib.ListN.{length, length-append}
-use Rattle.refusal.proofs.Logic.{by-test, choice}
-use Rattle.refusal.specs.Refusal.{refused, gave}
-use Rattle.refusal.specs.Call.{Call, writes}
+use Rattle.refusal.proofs.Logic.{by-test}
+use Rattle.wire.specs.Bytes.{wordOf}
 use Rattle.listing.specs.declared.Progress.{Progress}
 use Rattle.listing.specs.declared.Listed.{Listed}
-use Rattle.listing.specs.Listing.{wordOf, lineAt, after, Lines, stopped, behind, listed, answerOf}
+use Rattle.listing.specs.Listing.{lineAt, after, Lines, stopped, behind, listed, answerOf, ListCall, listCallOf, listCall}
 use Rattle.listing.proofs.Loops.{listed-bad, listed-full, listed-more}
 
 Bounded : List ℕ → ℕ → Lines → Type 0
@@ -37,20 +36,15 @@ bounded p (low ∷ high ∷ bytes) room =
     (λ u. subst (Bounded (low ∷ high ∷ bytes) room) (sym (listed-full p low high bytes room w refl (leb-true w 256 t) (leb-false (length (lineAt p w)) room u))) (omega arith, omega arith)))
     (λ t. subst (Bounded (low ∷ high ∷ bytes) room) (sym (listed-bad p low high bytes room w refl (leb-false w 256 t))) (omega arith, omega arith))
 
-pub words-within : (p : Progress) (bytes : List ℕ) (room : ℕ) (r : Listed) → r ≡ answerOf (listed p bytes room) → r .taken + r .taken ≤ length bytes
-unfolding Bounded answerOf
-words-within p bytes room r e = let k = ap (λ (x : Listed). x .taken) e in omega (arith, bounded p bytes room .0)
+module _ (p : Progress) (bytes out : List ℕ) (r : Listed) (left : List ℕ) (e : listCallOf r left ≡ listCall p bytes out) where
+  answers : r ≡ answerOf (listed p bytes (length out))
+  unfolding listCall
+  answers = ap (λ (c : ListCall). c .answer) e
 
-pub lines-within : (p : Progress) (bytes : List ℕ) (room : ℕ) (r : Listed) → r ≡ answerOf (listed p bytes room) → r .written ≤ room
-unfolding Bounded answerOf
-lines-within p bytes room r e = let k = ap (λ (x : Listed). x .written) e in omega (arith, bounded p bytes room .1)
+  pub words-within : r .taken + r .taken ≤ length bytes
+  unfolding Bounded answerOf
+  words-within = let k = ap (λ (x : Listed). x .taken) answers in omega (arith, bounded p bytes (length out) .0)
 
--- so many bytes were written by a call: they lie in its buffer
-pub gave-within : (xs out : List ℕ) (n : ℕ) → gave n ≡ writes xs out .outcome → n ≤ length out
-unfolding writes
-gave-within xs out n =
-    choice (λ (c : Call). gave n ≡ c .outcome → n ≤ length out) (leb (length xs) (length out))
-    (λ t e. let k : n ≡ length xs = cc in omega (arith, leb-true (length xs) (length out) t)) (λ t e. absurd (never e))
-  where
-    never : {k : ℕ} → gave n ≡ refused k → ⊥
-    never e = let z : _≡_ {A = ℕ} 0 1 = cc in omega arith
+  pub lines-within : r .written ≤ length out
+  unfolding Bounded answerOf
+  lines-within = let k = ap (λ (x : Listed). x .written) answers in omega (arith, bounded p bytes (length out) .1)

@@ -10,7 +10,7 @@ use lib.Dec.{ltb}
 use lib.ListN.{length, drop, set, length-append, length-set}
 use Rattle.refusal.proofs.Logic.{by-test}
 use Rattle.number.specs.Data.{digit}
-use Rattle.listing.specs.Text.{Room, Before}
+use Rattle.listing.specs.Inner.{Room, Before}
 use Rattle.listing.specs.Line.{decimalIn, decimal}
 use Rattle.listing.proofs.Texts.{set-front}
 

@@ -1,8 +1,10 @@
 pub mod Texts
 pub mod Decimals
+pub mod Calls
 pub mod Loops
 pub mod Whole
-pub mod Cases
 pub mod Bounds
 pub mod Messages
+pub mod Spoken
+pub mod Cases
 pub mod Sessions

@@ -1,22 +1,25 @@
 -- What one word adds to the listing, and what the loop over a buffer carries from word to word, in tail style: what is still to
 -- come, behind what is done, is the whole. Assumes nothing.
-use mathlib.Core.Path.{_≡_, refl, sym, ap, ap₂, _∙_, subst}
-use mathlib.Core.Bool.{true, false, cond, false≢true}
-use mathlib.Core.List.{List, [], _∷_, _++_, append-nil, append-assoc}
+use mathlib.Core.Path.{_≡_, refl, sym, ap, ap₂, _∙_}
+use mathlib.Core.Bool.{true, false, false≢true}
+use mathlib.Core.List.{List, [], _∷_}
 use Prim.Native.Nat.{ℕ, suc, _+_, _-_, _/_, _<_, _≤_}
 use native.Mathlib.Nat.{add-zero, zero-add}
 use native.Mathlib.Omega.{arith}
-use borrow.Author.Tests.{le-leb, lt-leb, leb-true, leb-false}
-use lib.Dec.{leb}
-use lib.ListN.{length, getD, take, drop, length-drop, take-append-drop}
-use lib.Seq.{drop-cons, drop-drop, paste, length-paste, take-paste, drop-paste, length-take-le, take-length}
-use Rattle.refusal.specs.Call.{laid, refuses, writes}
-use Rattle.refusal.specs.declared.Refusal.the-variants.{NotMessage}
-use Rattle.refusal.proofs.Logic.{choice}
-use Rattle.wire.specs.Line.{fitsAt, placed}
-use Rattle.wire.proofs.Lines.{placed-paste, placed-nothing}
+use borrow.Author.Tests.{le-leb, lt-leb}
+use lib.ListN.{length, getD, drop, length-append, length-drop}
+use lib.Seq.{drop-cons}
+use Rattle.refusal.specs.Buffer.{fitsAt, placed}
+use Rattle.refusal.specs.Call.{Call, callOf, placeCall}
+use Rattle.refusal.specs.declared.Refusal.{Refusal}
+use Rattle.refusal.specs.declared.Written.{Written}
+use Rattle.refusal.specs.declared.Written.the-variants.{Refused, Wrote}
+use Rattle.refusal.proofs.Logic.{by-test}
+use Rattle.refusal.proofs.Buffers.{placed-nothing, Filling, fill-begins, fill-goes-on, fill-laid}
+use Rattle.refusal.proofs.Calls.{placed-call, unplaced-call, fits-at}
+use Rattle.refusal.proofs.Placing.{fits-is, unfit-is, wrote-fits, wrote-count, refused-unfit}
+use Rattle.wire.specs.Bytes.{wordOf}
 use Rattle.message.specs.declared.Message.{Message}
-use Rattle.message.specs.Message.{isMessage}
 use Rattle.message.specs.declared.Parsed.{Parsed}
 use Rattle.message.specs.declared.Parsed.the-variants.{Heard, Unheard}
 use Rattle.hearing.specs.declared.Hearing.{Hearing}
@@ -25,89 +28,90 @@ use Rattle.listing.specs.declared.Progress.{Progress}
 use Rattle.listing.specs.declared.Stop.{Stop}
 use Rattle.listing.specs.declared.Stop.the-variants.{Done, Bad, Full}
 use Rattle.listing.specs.declared.Listed.{Listed}
-use Rattle.listing.specs.declared.Step.{Step}
-use Rattle.listing.specs.Line.{line, lineCall}
-use Rattle.listing.specs.Listing.{wordOf, next, lineOf, counted, lineAt, after, Lines, stopped, behind, listed, answerOf, fitsBehind, stepped}
-
--- ---- the line's call
-
-pub line-refused : (at : ℕ) (m : Message) (out : List ℕ) → isMessage m ≡ false → lineCall at m out ≡ refuses NotMessage out
-unfolding lineCall
-line-refused at m out e = rw e
-
-pub line-served : (at : ℕ) (m : Message) (out : List ℕ) → isMessage m ≡ true → lineCall at m out ≡ writes (line at m) out
-unfolding lineCall
-line-served at m out e = rw e
+use Rattle.listing.specs.declared.Advance.{Advance}
+use Rattle.listing.specs.Line.{line}
+use Rattle.listing.specs.Listing.{nextPosition, lineFor, countAfter, lineAt, after, Lines, stopped, behind, listed, answerOf, listCallOf, listCall}
+use Rattle.listing.specs.Inner.{advanced}
 
 -- ---- one word
 
--- what a word leaves of the buffer
-abbrev pub left : Progress → ℕ → ℕ → List ℕ → List ℕ
-left p w written out = cond (fitsBehind p w written (length out)) (placed (lineAt p w) written out) out
+-- what is to be shown of one word: the answer s, and the buffer out′ behind it
+abbrev pub AdvanceIs : Progress → ℕ → ℕ → List ℕ → Advance → List ℕ → Type 0
+AdvanceIs p w written out s out′ = (s ≡ advanced p w written out) × (out′ ≡ placeCall (lineAt p w) written out .buffer)
 
--- what is to be shown of one word: the step s, and the buffer out′ behind it
-abbrev pub StepIs : Progress → ℕ → ℕ → List ℕ → Step → List ℕ → Type 0
-StepIs p w written out s out′ = (s ≡ stepped p w written (length out)) × (out′ ≡ left p w written out)
+module _ (p : Progress) (w written : ℕ) (out : List ℕ) where
+  advanced-fits : fitsAt (lineAt p w) written out ≡ true
+      → advanced p w written out ≡ record { progress = after p w; written = written + length (lineAt p w); fits = true }
+  unfolding advanced
+  advanced-fits e = rw e
+
+  advanced-full : fitsAt (lineAt p w) written out ≡ false → advanced p w written out ≡ record { progress = p; written = written; fits = false }
+  unfolding advanced
+  advanced-full e = rw e
 
 -- the hearing h, as the code has it
-module _ (p : Progress) (w written : ℕ) (out : List ℕ) (h : Hearing) (e : h ≡ hear (p .pending) w) (at′ : ℕ) (en : at′ ≡ next (p .at)) where
-  went : (o : Parsed) (n : ℕ) → h .message ≡ o → n ≡ counted (p .count) o → record { pending = h .pending; at = at′; count = n } ≡ after p w
+module _ (p : Progress) (w written : ℕ) (out : List ℕ) (h : Hearing) (e : h ≡ hear (p .pending) w) (at′ : ℕ) (en : at′ ≡ nextPosition (p .at)) where
+  went : (o : Parsed) (n : ℕ) → h .message ≡ o → n ≡ countAfter (p .count) o → record { pending = h .pending; at = at′; count = n } ≡ after p w
   unfolding after
   went o n q k =
       ap (λ (x : ℕ). record { pending = h .pending; at = x; count = n }) en
-      ∙ ap (λ (x : ℕ). record { pending = h .pending; at = next (p .at); count = x }) (k ∙ sym (ap (counted (p .count)) q))
-      ∙ ap (λ (x : Hearing). record { pending = x .pending; at = next (p .at); count = counted (p .count) (x .message) }) e
+      ∙ ap (λ (x : ℕ). record { pending = h .pending; at = nextPosition (p .at); count = x }) (k ∙ sym (ap (countAfter (p .count)) q))
+      ∙ ap (λ (x : Hearing). record { pending = x .pending; at = nextPosition (p .at); count = countAfter (p .count) (x .message) }) e
 
-  its-line : (o : Parsed) → h .message ≡ o → lineAt p w ≡ lineOf (p .at) o
+  its-line : (o : Parsed) → h .message ≡ o → lineAt p w ≡ lineFor (p .at) o
   unfolding lineAt
-  its-line o q = ap (λ (x : Hearing). lineOf (p .at) (x .message)) (sym e) ∙ ap (lineOf (p .at)) q
+  its-line o q = ap (λ (x : Hearing). lineFor (p .at) (x .message)) (sym e) ∙ ap (lineFor (p .at)) q
 
-  pub step-unheard : h .message ≡ Unheard → written ≤ length out
-      → StepIs p w written out (record { progress = record { pending = h .pending; at = at′; count = p .count }; written = written; fits = true }) out
-  unfolding stepped fitsBehind counted lineOf
-  step-unheard q r =
+  pub advance-unheard : h .message ≡ Unheard → written ≤ length out
+      → AdvanceIs p w written out (record { progress = record { pending = h .pending; at = at′; count = p .count }; written = written; fits = true }) out
+  unfolding countAfter lineFor
+  advance-unheard q r =
       let l : lineAt p w ≡ [] = its-line Unheard q in
-      let f : leb (written + length (lineAt p w)) (length out) ≡ true = le-leb (written + length (lineAt p w)) (length out) (omega (arith, ap length l)) in
-      let n : written + length (lineAt p w) ≡ written = omega (arith, ap length l) in (
-        rw f (ap₂ (λ (x : Progress) (k : ℕ). record { progress = x; written = k; fits = true }) (went Unheard (p .count) q refl) (sym n)),
-        rw (f, l) (sym (placed-nothing written out)),
+      let n : written + length (lineAt p w) ≡ written = omega (arith, ap length l) in
+      let f = fits-at (lineAt p w) written out (omega arith) in (
+        ap₂ (λ (x : Progress) (k : ℕ). record { progress = x; written = k; fits = true }) (went Unheard (p .count) q refl) (sym n) ∙ sym (advanced-fits p w written out f),
+        sym (ap (λ (c : Call). c .buffer) (placed-call (lineAt p w) written out f) ∙ ap (λ (xs : List ℕ). placed xs written out) l ∙ placed-nothing written out),
       )
 
-  -- the line xs of the message heard
-  module _ (m : Message) (q : h .message ≡ Heard m) (xs : List ℕ) (ex : xs ≡ line (p .at) m) where
-    heard-line : lineAt p w ≡ xs
-    unfolding lineOf
-    heard-line = its-line (Heard m) q ∙ sym ex
+  -- the message heard, and the answer r of the call that placed its line
+  module _ (m : Message) (q : h .message ≡ Heard m) (r : Written) (out′ : List ℕ) (er : callOf r out′ ≡ placeCall (line (p .at) m) written out) where
+    heard-line : line (p .at) m ≡ lineAt p w
+    unfolding lineFor
+    heard-line = sym (its-line (Heard m) q)
 
-    pub step-heard : (n end : ℕ) (out′ : List ℕ) → n ≡ next (p .count) → end ≡ written + length xs → fitsAt xs written out ≡ true → out′ ≡ cond (fitsAt xs written out) (placed xs written out) out
-        → StepIs p w written out (record { progress = record { pending = h .pending; at = at′; count = n }; written = end; fits = true }) out′
-    unfolding stepped fitsBehind counted fitsAt
-    step-heard n end out′ en′ ee f eo =
-        rw heard-line
-        (rw f (ap₂ (λ (x : Progress) (k : ℕ). record { progress = x; written = k; fits = true }) (went (Heard m) n q en′) ee), eo)
+    placing : callOf r out′ ≡ placeCall (lineAt p w) written out
+    placing = er ∙ ap (λ (l : List ℕ). placeCall l written out) heard-line
 
-    pub step-full : (out′ : List ℕ) → fitsAt xs written out ≡ false → out′ ≡ cond (fitsAt xs written out) (placed xs written out) out
-        → StepIs p w written out (record { progress = p; written = written; fits = false }) out′
-    unfolding stepped fitsBehind fitsAt
-    step-full out′ f eo = rw heard-line (rw f refl, eo)
+    leaves : out′ ≡ placeCall (lineAt p w) written out .buffer
+    leaves = ap (λ (c : Call). c .buffer) placing
 
--- what the loop reads off a step
-module _ (p : Progress) (w written room : ℕ) (s : Step) (e : s ≡ stepped p w written room) where
-  pub step-fits : s .fits ≡ true → fitsBehind p w written room ≡ true
-  unfolding stepped
-  step-fits t =
-      choice (λ (x : Step). s ≡ x → fitsBehind p w written room ≡ true) (fitsBehind p w written room)
-      (λ u _. u) (λ u q. absurd (false≢true (sym (ap (λ (x : Step). x .fits) q) ∙ t))) e
+    pub line-room : (k : ℕ) → r ≡ Wrote k → written + k ≤ length out
+    line-room k ek =
+        rw (wrote-count (lineAt p w) written out r out′ placing k ek) (fits-is (lineAt p w) written out (wrote-fits (lineAt p w) written out r out′ placing k ek))
 
-  pub step-no-room : s .fits ≡ false → fitsBehind p w written room ≡ false
-  unfolding stepped
-  step-no-room t =
-      choice (λ (x : Step). s ≡ x → fitsBehind p w written room ≡ false) (fitsBehind p w written room)
-      (λ u q. absurd (false≢true (sym t ∙ ap (λ (x : Step). x .fits) q))) (λ u _. u) e
+    pub advance-heard : (n k : ℕ) → n ≡ nextPosition (p .count) → r ≡ Wrote k
+        → AdvanceIs p w written out (record { progress = record { pending = h .pending; at = at′; count = n }; written = written + k; fits = true }) out′
+    unfolding countAfter
+    advance-heard n k en′ ek = (
+      ap₂ (λ (x : Progress) (j : ℕ). record { progress = x; written = written + j; fits = true }) (went (Heard m) n q en′) (wrote-count (lineAt p w) written out r out′ placing k ek)
+          ∙ sym (advanced-fits p w written out (wrote-fits (lineAt p w) written out r out′ placing k ek)),
+      leaves,
+    )
 
-  pub step-taken : s .fits ≡ true → s ≡ record { progress = after p w; written = written + length (lineAt p w); fits = true }
-  unfolding stepped
-  step-taken t = e ∙ rw (step-fits t)
+    pub advance-full : (k : Refusal) → r ≡ Refused k → AdvanceIs p w written out (record { progress = p; written = written; fits = false }) out′
+    advance-full k ek = (sym (advanced-full p w written out (refused-unfit (lineAt p w) written out r out′ placing k ek)), leaves)
+
+-- what the loop reads off an advance
+module _ (p : Progress) (w written : ℕ) (out : List ℕ) (s : Advance) (e : s ≡ advanced p w written out) where
+  advance-fits : s .fits ≡ true → fitsAt (lineAt p w) written out ≡ true
+  advance-fits t =
+      by-test (fitsAt (lineAt p w) written out) (λ u. u)
+      (λ u. absurd (false≢true (sym (ap (λ (x : Advance). x .fits) (e ∙ advanced-full p w written out u)) ∙ t)))
+
+  advance-no-room : s .fits ≡ false → fitsAt (lineAt p w) written out ≡ false
+  advance-no-room t =
+      by-test (fitsAt (lineAt p w) written out)
+      (λ u. absurd (false≢true (sym t ∙ ap (λ (x : Advance). x .fits) (e ∙ advanced-fits p w written out u)))) (λ u. u)
 
 -- ---- the definition, by cases
 
@@ -136,7 +140,7 @@ listed-done p (low ∷ high ∷ bytes) room h = absurd (too-long (length bytes) 
     too-long n h = omega arith
 
 -- the two bytes of the word at an index
-pub pair-at : (bs : List ℕ) (k : ℕ) → k + k + 1 < length bs → drop (k + k) bs ≡ getD bs (k + k) 0 ∷ getD bs (k + k + 1) 0 ∷ drop (k + 1 + (k + 1)) bs
+pair-at : (bs : List ℕ) (k : ℕ) → k + k + 1 < length bs → drop (k + k) bs ≡ getD bs (k + k) 0 ∷ getD bs (k + k + 1) 0 ∷ drop (k + 1 + (k + 1)) bs
 pair-at bs k h =
     let n : suc (k + k) ≡ k + k + 1 = omega arith in
     let m : suc (k + k + 1) ≡ k + 1 + (k + 1) = omega arith in
@@ -147,127 +151,99 @@ pair-at bs k h =
 
 -- ---- the loop
 
--- text and words in front of what is still to come
-unfoldable pub ahead : List ℕ → ℕ → Lines → Lines
-ahead xs n l = record { text = xs ++ l .text; progress = l .progress; taken = n + l .taken; stop = l .stop }
+-- the answer behind words taken and bytes written, where l is still to come
+unfoldable pub answerBehind : ℕ → ℕ → Lines → Listed
+answerBehind taken written l = record { progress = l .progress; taken = taken + l .taken; written = written + length (l .text); stop = l .stop }
 
-nothing-ahead : (l : Lines) → ahead [] 0 l ≡ l
-unfolding ahead
-nothing-ahead l = ap (λ (k : ℕ). record { text = l .text; progress = l .progress; taken = k; stop = l .stop }) (zero-add (l .taken))
+answer-first : (l : Lines) → answerOf l ≡ answerBehind 0 0 l
+unfolding answerOf answerBehind
+answer-first l =
+    ap₂ (λ (j k : ℕ). record { progress = l .progress; taken = j; written = k; stop = l .stop }) (sym (zero-add (l .taken))) (sym (zero-add (length (l .text))))
 
-ahead-behind : (xs ys : List ℕ) (n : ℕ) (l : Lines) → ahead xs n (behind ys l) ≡ ahead (xs ++ ys) (n + 1) l
-unfolding ahead behind
-ahead-behind xs ys n l =
-    ap₂ (λ (t : List ℕ) (k : ℕ). record { text = t; progress = l .progress; taken = k; stop = l .stop }) (sym (append-assoc xs ys (l .text))) (omega arith)
+answer-behind : (taken written : ℕ) (xs : List ℕ) (l : Lines) → answerBehind taken written (behind xs l) ≡ answerBehind (taken + 1) (written + length xs) l
+unfolding answerBehind behind
+answer-behind taken written xs l =
+    ap₂ (λ (j k : ℕ). record { progress = l .progress; taken = j; written = k; stop = l .stop }) (omega arith) (omega (arith, length-append xs (l .text)))
 
-ahead-stopped : (xs : List ℕ) (n : ℕ) (p : Progress) (s : Stop) → ahead xs n (stopped p s) ≡ record { text = xs; progress = p; taken = n; stop = s }
-unfolding ahead stopped
-ahead-stopped xs n p s =
-    ap₂ (λ (t : List ℕ) (k : ℕ). record { text = t; progress = p; taken = k; stop = s }) (append-nil xs) (add-zero n)
+answer-stopped : (taken written : ℕ) (p : Progress) (s : Stop) → answerBehind taken written (stopped p s) ≡ record { progress = p; taken = taken; written = written; stop = s }
+unfolding answerBehind stopped
+answer-stopped taken written p s =
+    ap₂ (λ (j k : ℕ). record { progress = p; taken = j; written = k; stop = s }) (add-zero taken) (add-zero written)
 
-pub record Taken (p₀ : Progress) (bs out₀ out : List ℕ) (p : Progress) (written taken : ℕ) : Type 0 where
+-- words are taken and their lines written; what the rest gives from p on is what the whole gives from p₀ on
+pub record Continues (p₀ : Progress) (bs out₀ out : List ℕ) (p : Progress) (written taken : ℕ) : Type 0 where
   pub words-in : taken + taken ≤ length bs
   pub room-in : written ≤ length out₀
-  pub long : length out ≡ length out₀
-  pub kept : drop written out ≡ drop written out₀
-  pub whole : listed p₀ bs (length out₀) ≡ ahead (take written out) taken (listed p (drop (taken + taken) bs) (length out₀ - written))
+  pub answer : answerOf (listed p₀ bs (length out₀)) ≡ answerBehind taken written (listed p (drop (taken + taken) bs) (length out₀ - written))
+  pub filling : Filling (listed p₀ bs (length out₀) .text) out₀ 0 (listed p (drop (taken + taken) bs) (length out₀ - written) .text) out written
 
-pub takes : (p : Progress) (bs out : List ℕ) → Taken p bs out out p 0 0
-takes p bs out =
+pub continue-begins : (p : Progress) (bs out : List ℕ) → Continues p bs out out p 0 0
+continue-begins p bs out =
     let n : length out - 0 ≡ length out = omega arith in
     record {
       words-in = omega arith;
       room-in = omega arith;
-      long = refl;
-      kept = refl;
-      whole = sym (ap (λ (k : ℕ). ahead [] 0 (listed p bs k)) n ∙ nothing-ahead (listed p bs (length out)));
+      answer = answer-first (listed p bs (length out)) ∙ ap (λ (k : ℕ). answerBehind 0 0 (listed p bs k)) (sym n);
+      filling = rw n (fill-begins (listed p bs (length out) .text) out 0);
     }
 
--- what is to be shown where the loop stops: the answer, and the buffer
-abbrev pub ListedIs : Progress → List ℕ → List ℕ → List ℕ → Listed → Type 0
-ListedIs p₀ bs out₀ out r = (r ≡ answerOf (listed p₀ bs (length out₀))) × (out ≡ laid (listed p₀ bs (length out₀) .text) out₀)
+module _ (p₀ : Progress) (bs out₀ out : List ℕ) (p : Progress) (written taken : ℕ) (t : Continues p₀ bs out₀ out p written taken) where
+  abbrev rest : Lines
+  rest = listed p (drop (taken + taken) bs) (length out₀ - written)
 
-module _ (p₀ : Progress) (bs out₀ out : List ℕ) (p : Progress) (written taken : ℕ) (t : Taken p₀ bs out₀ out p written taken) where
-  stops : (s : Stop) (r : Listed) → r ≡ record { progress = p; taken = taken; written = written; stop = s } → listed p (drop (taken + taken) bs) (length out₀ - written) ≡ stopped p s → ListedIs p₀ bs out₀ out r
-  unfolding answerOf laid
-  stops s r er e =
-      let a = t .room-in in
-      let b = t .long in
-      let n : length (take written out) ≡ written = length-take-le written out (omega arith) in
-      let w : listed p₀ bs (length out₀) ≡ record { text = take written out; progress = p; taken = taken; stop = s }
-      = t .whole ∙ ap (ahead (take written out) taken) e ∙ ahead-stopped (take written out) taken p s in (
-        er ∙ ap (λ (k : ℕ). record { progress = p; taken = taken; written = k; stop = s }) (sym n) ∙ sym (ap answerOf w),
-        sym (take-append-drop written out)
-            ∙ ap (λ (l : List ℕ). take written out ++ l) (t .kept)
-            ∙ ap (λ (k : ℕ). take written out ++ drop k out₀) (sym n)
-            ∙ sym (ap (λ (l : Lines). l .text ++ drop (length (l .text)) out₀) w),
-      )
+  continue-stops : (s : Stop) (r : Listed) → r ≡ record { progress = p; taken = taken; written = written; stop = s } → rest ≡ stopped p s → listCallOf r out ≡ listCall p₀ bs out₀
+  unfolding listCall stopped
+  continue-stops s r er e =
+      let f : Filling (listed p₀ bs (length out₀) .text) out₀ 0 [] out written = rw (ap (λ (l : Lines). l .text) e) at (t .filling) in
+      ap₂ (λ (x : Listed) (b : List ℕ). listCallOf x b)
+      (er ∙ sym (answer-stopped taken written p s) ∙ sym (t .answer ∙ ap (answerBehind taken written) e))
+      (fill-laid out written f)
 
   -- fewer than two bytes are left
-  pub stops-done : (r : Listed) → r ≡ record { progress = p; taken = taken; written = written; stop = Done } → length bs / 2 ≤ taken → ListedIs p₀ bs out₀ out r
-  stops-done r er h = stops Done r er (listed-done p (drop (taken + taken) bs) (length out₀ - written) (omega (arith, length-drop (taken + taken) bs)))
+  pub stops-done : (r : Listed) → r ≡ record { progress = p; taken = taken; written = written; stop = Done } → length bs / 2 ≤ taken → listCallOf r out ≡ listCall p₀ bs out₀
+  stops-done r er h = continue-stops Done r er (listed-done p (drop (taken + taken) bs) (length out₀ - written) (omega (arith, length-drop (taken + taken) bs)))
 
   -- the next word w
   module _ (w : ℕ) (ew : w ≡ wordOf (getD bs (taken + taken) 0) (getD bs (taken + taken + 1) 0)) (in′ : taken < length bs / 2) where
-    here : drop (taken + taken) bs ≡ getD bs (taken + taken) 0 ∷ getD bs (taken + taken + 1) 0 ∷ drop (taken + 1 + (taken + 1)) bs
-    here = pair-at bs taken (omega arith)
+    abbrev bytes-behind : List ℕ
+    bytes-behind = drop (taken + 1 + (taken + 1)) bs
 
-    pub stops-bad : (r : Listed) → r ≡ record { progress = p; taken = taken; written = written; stop = Bad } → 256 < w → ListedIs p₀ bs out₀ out r
-    stops-bad r er h =
-        stops Bad r er
-        (ap (λ (l : List ℕ). listed p l (length out₀ - written)) here
-        ∙ listed-bad p _ _ (drop (taken + 1 + (taken + 1)) bs) (length out₀ - written) w ew h)
+    here : rest ≡ listed p (getD bs (taken + taken) 0 ∷ getD bs (taken + taken + 1) 0 ∷ bytes-behind) (length out₀ - written)
+    here = ap (λ (l : List ℕ). listed p l (length out₀ - written)) (pair-at bs taken (omega arith))
 
-    -- and the step s that it makes
-    module _ (ok : w ≤ 256) (s : Step) (es : s ≡ stepped p w written (length out)) where
-      pub stops-full : (out′ : List ℕ) (r : Listed) → r ≡ record { progress = p; taken = taken; written = written; stop = Full } → s .fits ≡ false → out′ ≡ left p w written out → ListedIs p₀ bs out₀ out′ r
-      unfolding fitsBehind
-      stops-full out′ r er f eo =
-          let a = t .room-in in
-          let b = t .long in
-          let g : leb (written + length (lineAt p w)) (length out) ≡ false = step-no-room p w written (length out) s es f in
-          let no : length out < written + length (lineAt p w) = leb-false (written + length (lineAt p w)) (length out) g in
-          let same : out′ ≡ out = eo ∙ rw g in
-          subst (λ (o : List ℕ). ListedIs p₀ bs out₀ o r) (sym same)
-          (stops Full r er
-          (ap (λ (l : List ℕ). listed p l (length out₀ - written)) here
-          ∙ listed-full p _ _ (drop (taken + 1 + (taken + 1)) bs) (length out₀ - written) w ew ok (omega arith)))
+    pub stops-bad : (r : Listed) → r ≡ record { progress = p; taken = taken; written = written; stop = Bad } → 256 < w → listCallOf r out ≡ listCall p₀ bs out₀
+    stops-bad r er h = continue-stops Bad r er (here ∙ listed-bad p _ _ bytes-behind (length out₀ - written) w ew h)
 
-      pub took : (out′ : List ℕ) → s .fits ≡ true → out′ ≡ left p w written out → Taken p₀ bs out₀ out′ (s .progress) (s .written) (taken + 1)
-      unfolding fitsBehind
-      took out′ f eo =
+    -- and the advance s that it makes
+    module _ (ok : w ≤ 256) (s : Advance) (out′ : List ℕ) (es : AdvanceIs p w written out s out′) where
+      pub stops-full : (r : Listed) → r ≡ record { progress = p; taken = taken; written = written; stop = Full } → s .fits ≡ false → listCallOf r out′ ≡ listCall p₀ bs out₀
+      stops-full r er f =
+          let u = advance-no-room p w written out s (es .0) f in
+          let no = unfit-is (lineAt p w) written out u in
+          let same : out′ ≡ out = es .1 ∙ ap (λ (c : Call). c .buffer) (unplaced-call (lineAt p w) written out u) in
+          rw same
+          (continue-stops Full r er (here ∙ listed-full p _ _ bytes-behind (length out₀ - written) w ew ok (omega (arith, t .filling .long, t .room-in))))
+
+      pub continue-goes-on : s .fits ≡ true → Continues p₀ bs out₀ out′ (s .progress) (s .written) (taken + 1)
+      unfolding behind
+      continue-goes-on f =
           let xs = lineAt p w in
-          let b = t .long in
-          let g : leb (written + length xs) (length out) ≡ true = step-fits p w written (length out) s es f in
-          let fits : written + length xs ≤ length out = leb-true (written + length xs) (length out) g in
-          let in-front : written ≤ length out = omega arith in
-          let all : length xs ≤ length xs = omega arith in
-          let st = step-taken p w written (length out) s es f in
-          let sp : s .progress ≡ after p w = ap (λ (x : Step). x .progress) st in
-          let sw : s .written ≡ written + length xs = ap (λ (x : Step). x .written) st in
-          let paste-is : out′ ≡ paste out written xs (length xs) = eo ∙ rw g (placed-paste xs written out) in
-          let less : length out₀ - written - length xs ≡ length out₀ - s .written = omega arith in
-          let front : take (s .written) out′ ≡ take written out ++ xs
-          = ap (λ (k : ℕ). take k out′) sw ∙ ap (take (written + length xs)) paste-is ∙ take-paste out written xs (length xs) in-front all
-          ∙ ap (λ (l : List ℕ). take written out ++ l) (take-length xs) in
-          record {
+          let g = advance-fits p w written out s (es .0) f in
+          let fits : written + length xs ≤ length out = fits-is xs written out g in
+          let long : length out ≡ length out₀ = t .filling .long in
+          let st = es .0 ∙ advanced-fits p w written out g in
+          let sp : s .progress ≡ after p w = ap (λ (x : Advance). x .progress) st in
+          let sw : s .written ≡ written + length xs = ap (λ (x : Advance). x .written) st in
+          let so : out′ ≡ placed xs written out = es .1 ∙ ap (λ (c : Call). c .buffer) (placed-call xs written out g) in
+          let left = length out₀ - (written + length xs) in
+          let less : length out₀ - written - length xs ≡ left = omega arith in
+          let next = listed (after p w) bytes-behind left in
+          let now : rest ≡ behind xs next
+          = here ∙ listed-more p _ _ bytes-behind (length out₀ - written) w ew ok (omega arith) ∙ ap (λ (k : ℕ). behind xs (listed (after p w) bytes-behind k)) less in
+          rw (sp, sw, so)
+          (record {
             words-in = omega arith;
             room-in = omega arith;
-            long = ap length paste-is ∙ length-paste out written xs (length xs) fits all ∙ b;
-            kept =
-                ap (λ (k : ℕ). drop k out′) sw
-                ∙ ap (drop (written + length xs)) paste-is
-                ∙ drop-paste out written xs (length xs) in-front all
-                ∙ sym (drop-drop (length xs) written out)
-                ∙ ap (drop (length xs)) (t .kept)
-                ∙ drop-drop (length xs) written out₀
-                ∙ ap (λ (k : ℕ). drop k out₀) (sym sw);
-            whole =
-                t .whole
-                ∙ ap (λ (l : List ℕ). ahead (take written out) taken (listed p l (length out₀ - written))) here
-                ∙ ap (ahead (take written out) taken)
-                (listed-more p _ _ (drop (taken + 1 + (taken + 1)) bs) (length out₀ - written) w ew ok (omega arith)
-                ∙ ap₂ (λ (q : Progress) (k : ℕ). behind xs (listed q (drop (taken + 1 + (taken + 1)) bs) k)) (sym sp) less)
-                ∙ ahead-behind (take written out) xs taken (listed (s .progress) (drop (taken + 1 + (taken + 1)) bs) (length out₀ - s .written))
-                ∙ ap (λ (l : List ℕ). ahead l (taken + 1) (listed (s .progress) (drop (taken + 1 + (taken + 1)) bs) (length out₀ - s .written))) (sym front);
-          }
+            answer = t .answer ∙ ap (answerBehind taken written) now ∙ answer-behind taken written xs next;
+            filling = fill-goes-on xs (next .text) out written (rw now at (t .filling)) fits;
+          })

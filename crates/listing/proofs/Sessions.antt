@@ -8,10 +8,11 @@ use borrow.Author.Tests.{leb-true, leb-false}
 use lib.Dec.{leb, lit≤}
 use lib.ListN.{length, drop, length-append}
 use Rattle.refusal.proofs.Logic.{by-test}
+use Rattle.wire.specs.Bytes.{wordOf}
 use Rattle.listing.specs.declared.Progress.{Progress}
 use Rattle.listing.specs.declared.Stop.{Stop}
 use Rattle.listing.specs.declared.Stop.the-variants.{Done, Bad, Full}
-use Rattle.listing.specs.Listing.{wordOf, start, lineAt, after, lastLine, listingFrom, Lines, stopped, behind, listed}
+use Rattle.listing.specs.Listing.{start, lineAt, after, lastLine, listingFrom, Lines, stopped, behind, listed}
 use Rattle.listing.specs.Session.{ended, untaken, Session, goes-on, breaks-off, ends}
 use Rattle.listing.proofs.Loops.{listed-bad, listed-more}
 use Rattle.listing.proofs.Whole.{word-good, session-lists}

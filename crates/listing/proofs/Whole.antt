@@ -9,11 +9,12 @@ use borrow.Author.Tests.{leb-true, leb-false}
 use lib.Dec.{leb}
 use lib.ListN.{length, drop}
 use Rattle.refusal.proofs.Logic.{by-test}
+use Rattle.wire.specs.Bytes.{wordOf}
 use Rattle.listing.specs.declared.Progress.{Progress}
 use Rattle.listing.specs.declared.Stop.{Stop}
 use Rattle.listing.specs.declared.Stop.the-variants.{Done, Bad, Full}
 use Rattle.listing.specs.declared.Ending.the-variants as ending
-use Rattle.listing.specs.Listing.{heading, wordOf, start, lineAt, after, lastLine, listingFrom, listing, Lines, stopped, behind, listed}
+use Rattle.listing.specs.Listing.{heading, start, lineAt, after, lastLine, listingFrom, listing, Lines, stopped, behind, listed}
 use Rattle.listing.specs.Session.{ended, untaken, Session, goes-on, breaks-off, ends}
 use Rattle.listing.proofs.Loops.{listed-bad, listed-full, listed-more}
 
@@ -30,7 +31,7 @@ abbrev Resumes : Progress → List ℕ → List ℕ → Lines → Type 0
 Resumes p bytes rest l = listingFrom p (bytes ++ rest) ≡ l .text ++ follows (l .stop) (l .progress) (untaken bytes l ++ rest)
 
 module _ (p : Progress) (low high : ℕ) (bytes : List ℕ) where
-  word-bad : leb (wordOf low high) 256 ≡ false → listingFrom p (low ∷ high ∷ bytes) ≡ lastLine (ending.Bad (p .at))
+  pub word-bad : leb (wordOf low high) 256 ≡ false → listingFrom p (low ∷ high ∷ bytes) ≡ lastLine (ending.Bad (p .at))
   unfolding listingFrom
   word-bad e = rw e
 

@@ -1,4 +1,4 @@
-pub mod Text
 pub mod Line
 pub mod Listing
 pub mod Session
+pub mod Inner

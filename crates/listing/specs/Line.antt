@@ -1,18 +1,19 @@
 -- The line of a message, and the call that writes it. Plain ASCII, no parity.
-use mathlib.Core.Bool.{cond}
+use mathlib.Core.Bool.{cond, not}
 use mathlib.Core.List.{List, [], _∷_, _++_}
 use Prim.Native.Nat.{ℕ, zero, suc, _/_, _%_}
 use Prim.Native.Char.{code}
 use lib.Dec.{ltb}
-use Rattle.refusal.specs.Call.{Call, refuses, writes}
+use Rattle.refusal.specs.Check.{refuseIf}
+use Rattle.refusal.specs.Call.{Call, writes}
 use Rattle.refusal.specs.declared.Refusal.the-variants.{NotMessage}
 use Rattle.wire.specs.Text.{chars}
 use Rattle.number.specs.Data.{digit, spellData}
-use Rattle.message.specs.declared.Body.{Body}
-use Rattle.message.specs.declared.Body.the-variants.{Status, Query, Up, Down, Set, Store}
+use Rattle.message.specs.declared.Kind.{Kind}
+use Rattle.message.specs.declared.Kind.the-variants.{Sign, Data}
 use Rattle.message.specs.declared.Message.{Message}
 use Rattle.message.specs.Message.{isMessage}
-use Rattle.message.specs.Spell.{spellAddress}
+use Rattle.message.specs.Spell.{spellAddress, kindOf}
 
 -- the decimal digits of n without leading zeros, by at most k divisions
 unfoldable pub decimalIn : ℕ → ℕ → List ℕ
@@ -24,21 +25,17 @@ unfoldable pub decimal : ℕ → List ℕ
 decimal n = decimalIn n n
 
 -- document 01: "body sign, data or `-`, spelled as in the normal form"
-unfoldable pub kindAndData : Body → List ℕ
-kindAndData Status = chars "? -"
-kindAndData Query = chars "? -"
-kindAndData Up = chars "+ -"
-kindAndData Down = chars "- -"
-kindAndData (Set n d) = chars "# " ++ spellData n d
-kindAndData Store = chars "I -"
+unfoldable pub kindAndData : Kind → List ℕ
+kindAndData (Sign c) = c ∷ chars " -"
+kindAndData (Data x) = chars "# " ++ spellData x
 
 -- document 01: "position of its `*` counted from 0, letter and address, identifier, body sign, data or `-`"; "Every line ends with
 -- one line feed."
 unfoldable pub line : ℕ → Message → List ℕ
 line at m =
     decimal at
-    ++ (code " " ∷ m .letter ∷ (spellAddress (m .address) ++ (code " " ∷ m .identifier ∷ code " " ∷ (kindAndData (m .body) ++ chars "\n"))))
+    ++ (code " " ∷ m .letter ∷ (spellAddress (m .address) ++ (code " " ∷ m .identifier ∷ code " " ∷ (kindAndData (kindOf (m .body)) ++ chars "\n"))))
 
 -- document 01: "For the writer and the listing line 7 comes before 5"
 unfoldable pub lineCall : ℕ → Message → List ℕ → Call
-lineCall at m out = cond (isMessage m) (writes (line at m) out) (refuses NotMessage out)
+lineCall at m out = writes (refuseIf (not (isMessage m)) NotMessage ∷ []) (line at m) out

@@ -1,10 +1,12 @@
 -- The listing of a recording: the whole output for any bytes, and what one call over a buffer of them gives.
-use mathlib.Core.Bool.{Bool, true, false, cond}
+use mathlib.Core.Bool.{cond}
 use mathlib.Core.List.{List, [], _∷_, _++_}
-use Prim.Native.Nat.{ℕ, _+_, _-_, _*_, _%_, _^_}
+use Prim.Native.Nat.{ℕ, _+_, _-_, _%_, _^_}
 use lib.Dec.{leb}
 use lib.ListN.{length}
+use Rattle.refusal.specs.Buffer.{laid}
 use Rattle.wire.specs.Text.{chars}
+use Rattle.wire.specs.Bytes.{wordOf}
 use Rattle.message.specs.declared.Parsed.{Parsed}
 use Rattle.message.specs.declared.Parsed.the-variants.{Heard, Unheard}
 use Rattle.hearing.specs.Hearing.{none, hear}
@@ -12,7 +14,6 @@ use Rattle.listing.specs.declared.Progress.{Progress}
 use Rattle.listing.specs.declared.Stop.{Stop}
 use Rattle.listing.specs.declared.Stop.the-variants.{Done, Bad, Full}
 use Rattle.listing.specs.declared.Listed.{Listed}
-use Rattle.listing.specs.declared.Step.{Step}
 use Rattle.listing.specs.declared.Ending.{Ending}
 use Rattle.listing.specs.declared.Ending.the-variants as ending
 use Rattle.listing.specs.Line.{decimal, line}
@@ -21,34 +22,30 @@ use Rattle.listing.specs.Line.{decimal, line}
 abbrev pub heading : List ℕ
 heading = chars "AT CARD ID KIND DATA\n"
 
--- document 01: "two bytes each, low byte first"
-unfoldable pub wordOf : ℕ → ℕ → ℕ
-wordOf low high = low + 256 * high
-
 -- positions and counts have 64 bits: behind 2^64 words they begin again at 0
-unfoldable pub next : ℕ → ℕ
-next n = (n + 1) % 2 ^ 64
+unfoldable pub nextPosition : ℕ → ℕ
+nextPosition n = (n + 1) % 2 ^ 64
 
 -- before the first word
 unfoldable pub start : Progress
 start = record { pending = none; at = 0; count = 0 }
 
 -- document 01: "one line for each heard message"
-unfoldable pub lineOf : ℕ → Parsed → List ℕ
-lineOf at (Heard m) = line at m
-lineOf at Unheard = []
+unfoldable pub lineFor : ℕ → Parsed → List ℕ
+lineFor at (Heard m) = line at m
+lineFor at Unheard = []
 
 -- document 01: "`END` gives the number of messages"
-unfoldable pub counted : ℕ → Parsed → ℕ
-counted n (Heard m) = next n
-counted n Unheard = n
+unfoldable pub countAfter : ℕ → Parsed → ℕ
+countAfter n (Heard m) = nextPosition n
+countAfter n Unheard = n
 
 -- what a word adds to the listing, and how far it is then
 unfoldable pub lineAt : Progress → ℕ → List ℕ
-lineAt p w = lineOf (p .at) (hear (p .pending) w .message)
+lineAt p w = lineFor (p .at) (hear (p .pending) w .message)
 
 unfoldable pub after : Progress → ℕ → Progress
-after p w = record { pending = hear (p .pending) w .pending; at = next (p .at); count = counted (p .count) (hear (p .pending) w .message) }
+after p w = record { pending = hear (p .pending) w .pending; at = nextPosition (p .at); count = countAfter (p .count) (hear (p .pending) w .message) }
 
 -- document 01: "A word above 256 at position n ends it with `BAD n` in place of END; a lone last byte ends it with `ODD` in that place."
 unfoldable pub lastLine : Ending → List ℕ
@@ -98,12 +95,13 @@ listed p (low ∷ high ∷ bytes) room =
 unfoldable pub answerOf : Lines → Listed
 answerOf l = record { progress = l .progress; taken = l .taken; written = length (l .text); stop = l .stop }
 
--- one word, behind so many bytes of a room
-unfoldable pub fitsBehind : Progress → ℕ → ℕ → ℕ → Bool
-fitsBehind p w written room = leb (written + length (lineAt p w)) room
+-- the answer of a call, and the whole buffer afterwards
+pub record ListCall : Type 0 where
+  pub answer : Listed
+  pub buffer : List ℕ
 
-unfoldable pub stepped : Progress → ℕ → ℕ → ℕ → Step
-stepped p w written room =
-    cond (fitsBehind p w written room)
-    (record { progress = after p w; written = written + length (lineAt p w); fits = true })
-    (record { progress = p; written = written; fits = false })
+abbrev pub listCallOf : Listed → List ℕ → ListCall
+listCallOf r out = record { answer = r; buffer = out }
+
+unfoldable pub listCall : Progress → List ℕ → List ℕ → ListCall
+listCall p bytes out = listCallOf (answerOf (listed p bytes (length out))) (laid (listed p bytes (length out) .text) out)

@@ -1,27 +1,26 @@
 // The listing of a recording: the line of a message, the lines of a buffer of words, and the last line.
 ghost use mathlib.Core.Path.{_≡_};
-ghost use mathlib.Core.Bool.{cond};
 ghost use mathlib.Core.List.{[], _∷_, _++_};
 ghost use Prim.Native.Nat.{_+_, _<_, _≤_};
 ghost use lib.ListN.{length, getD};
-ghost use Rattle.refusal.specs.Refusal.{outcomeOf};
-ghost use Rattle.refusal.specs.Call.{writes, laid};
-ghost use Rattle.wire.specs.Line.{placed};
+ghost use Rattle.refusal.specs.Call.{callOf, writes, placeCall};
 ghost use Rattle.wire.specs.Text.{chars};
-ghost use Rattle.message.specs.Spell.{spellAddress};
-ghost use Rattle.listing.specs.Text.{longest, Room, Before, Holds};
+ghost use Rattle.wire.specs.Bytes.{wordOf};
+ghost use Rattle.message.specs.Spell.{spellAddress, kindOf};
 ghost use Rattle.listing.specs.Line.{decimal, kindAndData, line, lineCall};
-ghost use Rattle.listing.specs.Listing.{heading, wordOf, start, lineAt, fitsBehind, stepped, lastLine, listed, answerOf};
+ghost use Rattle.listing.specs.Listing.{heading, start, lineAt, lastLine, listCallOf, listCall};
+ghost use Rattle.listing.specs.Inner.{longestLine, Room, Before, EndsWith, advanced};
 use hearing::MOST;
 use hearing::Pending;
 use message::Body;
+use message::Kind;
 use message::Message;
 use message::Parsed;
 use refusal::Refusal;
 use refusal::Written;
 
 // The longest line: a position of twenty digits, and a message with data.
-pub const LONGEST: usize = 35;
+pub const LONGEST_LINE: usize = 35;
 
 // How far the listing has come: the open message, the position of the next word, the messages so far.
 pub struct Progress {
@@ -53,7 +52,7 @@ pub enum Ending {
 }
 
 // What one word has done.
-struct Step {
+struct Advance {
     progress: Progress,
     written: usize,
     fits: bool,
@@ -131,26 +130,25 @@ fn put_address(text: &mut [u8], from: usize, address: u8) -> usize
 // The body's sign, and its data or `-`.
 fn put_body(text: &mut [u8], from: usize, body: Body) -> usize
     requires { ⌜ Room 7 from (now text) ⌝ }
-    ensures { λ r. ⌜ Before 7 (kindAndData body) from (now (text .entry)) r (now (text .exit)) ⌝ }
+    ensures { λ r. ⌜ Before 7 (kindAndData (kindOf body)) from (now (text .entry)) r (now (text .exit)) ⌝ }
 {
-    match body {
-        Body::Status => put_all(text, from, b"? -"),
-        Body::Query => put_all(text, from, b"? -"),
-        Body::Up => put_all(text, from, b"+ -"),
-        Body::Down => put_all(text, from, b"- -"),
-        Body::Set { number, decimals } => {
-            let digits = number::write_data(number, decimals);
+    match message::kind_of(body) {
+        Kind::Sign(c) => {
+            let dash = put_all(text, from, b" -");
+            put(text, dash, c)
+        }
+        Kind::Data(x) => {
+            let digits = number::write_data(x);
             let data = put_all(text, from, &digits);
             put_all(text, data, b"# ")
         }
-        Body::Store => put_all(text, from, b"I -"),
     }
 }
 
 // What a line has behind its card: the identifier, the body and the line's end.
 fn put_request(text: &mut [u8], from: usize, message: Message) -> usize
     requires { ⌜ Room 11 from (now text) ⌝ }
-    ensures { λ r. ⌜ Before 11 (32 ∷ message .identifier ∷ 32 ∷ (kindAndData (message .body) ++ chars "\n")) from (now (text .entry)) r (now (text .exit)) ⌝ }
+    ensures { λ r. ⌜ Before 11 (32 ∷ message .identifier ∷ 32 ∷ (kindAndData (kindOf (message .body)) ++ chars "\n")) from (now (text .entry)) r (now (text .exit)) ⌝ }
 {
     let body = message.body;
     let feed = put(text, from, b'\n');
@@ -162,8 +160,8 @@ fn put_request(text: &mut [u8], from: usize, message: Message) -> usize
 
 // The line of a message whose `*` stands at a position.
 fn put_line(text: &mut [u8], at: u64, message: Message) -> usize
-    requires { ⌜ longest ≤ length (now text) ⌝ }
-    ensures { λ r. ⌜ Holds (line at message) r (now (text .exit)) ⌝ }
+    requires { ⌜ longestLine ≤ length (now text) ⌝ }
+    ensures { λ r. ⌜ EndsWith (line at message) r (now (text .exit)) ⌝ }
 {
     let request = put_request(text, text.len(), message);
     let address = put_address(text, request, message.address);
@@ -172,35 +170,29 @@ fn put_line(text: &mut [u8], at: u64, message: Message) -> usize
     put_decimal(text, space, at)
 }
 
-// A text at the front of a buffer.
-fn write(text: &[u8], out: &mut [u8]) -> Written
-    ensures answers { λ r. ⌜ outcomeOf r ≡ writes (now (text .entry)) (now (out .entry)) .outcome ⌝ }
-    ensures leaves { λ r. ⌜ now (out .exit) ≡ writes (now (text .entry)) (now (out .entry)) .buffer ⌝ }
+// The line of a message into a buffer from a place on, where it fits.
+fn place_line(at: u64, message: Message, out: &mut [u8], written: usize) -> Written
+    ensures { λ r. ⌜ callOf r (now (out .exit)) ≡ placeCall (line at message) written (now (out .entry)) ⌝ }
 {
-    if wire::place(text, out, 0) {
-        Written::Wrote(text.len())
-    } else {
-        Written::Refused(Refusal::RoomTooShort)
-    }
+    let mut text = [0u8; LONGEST_LINE];
+    let from = put_line(&mut text, at, message);
+    wire::place(&text[from..], out, written)
 }
 
 // The line of a message at the front of a buffer.
 pub fn line(at: u64, message: Message, out: &mut [u8]) -> Written
-    ensures answers { λ r. ⌜ outcomeOf r ≡ lineCall at message (now (out .entry)) .outcome ⌝ }
-    ensures leaves { λ r. ⌜ now (out .exit) ≡ lineCall at message (now (out .entry)) .buffer ⌝ }
+    ensures { λ r. ⌜ callOf r (now (out .exit)) ≡ lineCall at message (now (out .entry)) ⌝ }
 {
     if !message::is_message(message) {
         return Written::Refused(Refusal::NotMessage);
     }
-    let mut text = [0u8; LONGEST];
-    let from = put_line(&mut text, at, message);
-    write(&text[from..], out)
+    place_line(at, message, out, 0)
 }
 
 // A word of four characters, a number and the line's end.
 fn put_numbered(text: &mut [u8], word: &[u8; 4], n: u64) -> usize
-    requires { ⌜ longest ≤ length (now text) ⌝ }
-    ensures { λ r. ⌜ Holds (now (word .entry) ++ (decimal n ++ chars "\n")) r (now (text .exit)) ⌝ }
+    requires { ⌜ longestLine ≤ length (now text) ⌝ }
+    ensures { λ r. ⌜ EndsWith (now (word .entry) ++ (decimal n ++ chars "\n")) r (now (text .exit)) ⌝ }
 {
     let feed = put(text, text.len(), b'\n');
     let number = put_decimal(text, feed, n);
@@ -209,8 +201,8 @@ fn put_numbered(text: &mut [u8], word: &[u8; 4], n: u64) -> usize
 
 // The last line.
 fn put_last(text: &mut [u8], ending: Ending) -> usize
-    requires { ⌜ longest ≤ length (now text) ⌝ }
-    ensures { λ r. ⌜ Holds (lastLine ending) r (now (text .exit)) ⌝ }
+    requires { ⌜ longestLine ≤ length (now text) ⌝ }
+    ensures { λ r. ⌜ EndsWith (lastLine ending) r (now (text .exit)) ⌝ }
 {
     match ending {
         Ending::End(count) => put_numbered(text, b"END ", count),
@@ -221,19 +213,11 @@ fn put_last(text: &mut [u8], ending: Ending) -> usize
 
 // The last line at the front of a buffer.
 pub fn last(ending: Ending, out: &mut [u8]) -> Written
-    ensures answers { λ r. ⌜ outcomeOf r ≡ writes (lastLine ending) (now (out .entry)) .outcome ⌝ }
-    ensures leaves { λ r. ⌜ now (out .exit) ≡ writes (lastLine ending) (now (out .entry)) .buffer ⌝ }
+    ensures { λ r. ⌜ callOf r (now (out .exit)) ≡ writes [] (lastLine ending) (now (out .entry)) ⌝ }
 {
-    let mut text = [0u8; LONGEST];
+    let mut text = [0u8; LONGEST_LINE];
     let from = put_last(&mut text, ending);
-    write(&text[from..], out)
-}
-
-// Two bytes are a word, low byte first.
-fn word_of(low: u8, high: u8) -> u16
-    ensures { λ r. ⌜ r ≡ wordOf low high ⌝ }
-{
-    low as u16 + 256 * high as u16
+    wire::place(&text[from..], out, 0)
 }
 
 // The word at an index, two bytes each.
@@ -243,14 +227,14 @@ fn word_at(bytes: &[u8], i: usize) -> u16
 {
     let at = i + i;
     let behind = at + 1;
-    word_of(bytes[at], bytes[behind])
+    wire::word_of(bytes[at], bytes[behind])
 }
 
 // One word, its line behind what is written. A line that has no room leaves everything as it was.
-fn take_word(progress: Progress, word: u16, out: &mut [u8], written: usize) -> Step
+fn take_word(progress: Progress, word: u16, out: &mut [u8], written: usize) -> Advance
     requires { ⌜ written ≤ length (now out) ⌝ }
-    ensures answers { λ r. ⌜ r ≡ stepped progress word written (length (now (out .entry))) ⌝ }
-    ensures leaves { λ r. ⌜ now (out .exit) ≡ cond (fitsBehind progress word written (length (now (out .entry)))) (placed (lineAt progress word) written (now (out .entry))) (now (out .entry)) ⌝ }
+    ensures answers { λ r. ⌜ r ≡ advanced progress word written (now (out .entry)) ⌝ }
+    ensures leaves { λ r. ⌜ now (out .exit) ≡ placeCall (lineAt progress word) written (now (out .entry)) .buffer ⌝ }
 {
     let before = progress.pending;
     let at = progress.at;
@@ -265,27 +249,25 @@ fn take_word(progress: Progress, word: u16, out: &mut [u8], written: usize) -> S
             at: next,
             count,
         };
-        return step_of(progress, written, true);
+        return advance_of(progress, written, true);
     };
-    let mut text = [0u8; LONGEST];
-    let from = put_line(&mut text, at, m);
-    if !wire::place(&text[from..], out, written) {
-        return step_of(progress, written, false);
-    }
-    let end = written + (LONGEST - from);
+    let Written::Wrote(n) = place_line(at, m, out, written) else {
+        return advance_of(progress, written, false);
+    };
+    let end = written + n;
     let more = std::num::wrapping_add_u64(count, 1);
     let progress = Progress {
         pending,
         at: next,
         count: more,
     };
-    step_of(progress, end, true)
+    advance_of(progress, end, true)
 }
 
-fn step_of(progress: Progress, written: usize, fits: bool) -> Step
+fn advance_of(progress: Progress, written: usize, fits: bool) -> Advance
     ensures { λ r. ⌜ r ≡ record { progress = progress; written = written; fits = fits } ⌝ }
 {
-    Step {
+    Advance {
         progress,
         written,
         fits,
@@ -296,8 +278,7 @@ fn step_of(progress: Progress, written: usize, fits: bool) -> Step
 // a word is above 256, or its line no longer fits. The next call begins behind the words taken, with the progress given. Only a
 // word that closes a message can have a line.
 pub fn list(progress: Progress, bytes: &[u8], out: &mut [u8]) -> Listed
-    ensures answers { λ r. ⌜ r ≡ answerOf (listed progress (now (bytes .entry)) (length (now (out .entry)))) ⌝ }
-    ensures leaves { λ r. ⌜ now (out .exit) ≡ laid (listed progress (now (bytes .entry)) (length (now (out .entry))) .text) (now (out .entry)) ⌝ }
+    ensures { λ r. ⌜ listCallOf r (now (out .exit)) ≡ listCall progress (now (bytes .entry)) (now (out .entry)) ⌝ }
 {
     let words = bytes.len() / 2;
     let before = progress.pending;
@@ -310,7 +291,7 @@ pub fn list(progress: Progress, bytes: &[u8], out: &mut [u8]) -> Listed
     while taken < words {
         let word = word_at(bytes, taken);
         if 256 < word {
-            return stopped(so_far(chars, len, at, count), taken, written, Stop::Bad);
+            return stopped(chars, len, at, count, taken, written, Stop::Bad);
         }
         let next = hearing::take(&mut chars, len, word);
         if !next.closes {
@@ -319,20 +300,20 @@ pub fn list(progress: Progress, bytes: &[u8], out: &mut [u8]) -> Listed
             taken += 1;
             continue;
         }
-        let step = take_word(so_far(chars, len, at, count), word, out, written);
-        if !step.fits {
-            return stopped(so_far(chars, len, at, count), taken, written, Stop::Full);
+        let advance = take_word(so_far(chars, len, at, count), word, out, written);
+        if !advance.fits {
+            return stopped(chars, len, at, count, taken, written, Stop::Full);
         }
-        let after = step.progress;
+        let after = advance.progress;
         let open = after.pending;
         chars = open.chars;
         len = open.len;
         at = after.at;
         count = after.count;
-        written = step.written;
+        written = advance.written;
         taken += 1;
     }
-    stopped(so_far(chars, len, at, count), taken, written, Stop::Done)
+    stopped(chars, len, at, count, taken, written, Stop::Done)
 }
 
 // How far the listing is, from its parts.
@@ -343,9 +324,20 @@ fn so_far(chars: [u8; MOST], len: usize, at: u64, count: u64) -> Progress
     Progress { pending, at, count }
 }
 
-fn stopped(progress: Progress, taken: usize, written: usize, stop: Stop) -> Listed
-    ensures { λ r. ⌜ r ≡ record { progress = progress; taken = taken; written = written; stop = stop } ⌝ }
+// What the call has done, from its parts.
+fn stopped(
+    chars: [u8; MOST],
+    len: usize,
+    at: u64,
+    count: u64,
+    taken: usize,
+    written: usize,
+    stop: Stop,
+) -> Listed
+    ensures { λ r. ⌜ r ≡ record { progress = record { pending = record { chars = chars; len = len }; at = at; count = count }; taken = taken; written = written; stop = stop } ⌝ }
 {
+    let pending = Pending { chars, len };
+    let progress = Progress { pending, at, count };
     Listed {
         progress,
         taken,

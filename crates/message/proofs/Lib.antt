@@ -3,3 +3,4 @@ pub mod Reading
 pub mod Places
 pub mod Spelling
 pub mod Short
+pub mod Examples

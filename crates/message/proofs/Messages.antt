@@ -1,12 +1,12 @@
 -- What the parts of a message are: laws of the tests, for whoever has a message or makes one. Assumes nothing.
-use mathlib.Core.Path.{_≡_, refl, sym, ap, _∙_, subst}
-use mathlib.Core.Bool.{Bool, true, false, not, _&&_, _||_}
+use mathlib.Core.Path.{_≡_, refl}
+use mathlib.Core.Bool.{true, false}
 use mathlib.Core.List.{List, [], _∷_, _++_}
 use Prim.Native.Nat.{ℕ, _<_, _≤_}
 use Prim.Native.Char.{code}
 use native.Mathlib.Omega.{arith}
 use borrow.Author.Tests.{leb-true, le-leb, eqb-true, ne-eqb}
-use lib.Dec.{leb, eqb}
+use lib.Dec.{eqb}
 use Rattle.refusal.proofs.Logic.{ands, and-both, not-is, is-not, or-cases}
 use Rattle.number.specs.Data.{isDigit, fits}
 use Rattle.number.proofs.Digits.{digit-ends}
@@ -36,7 +36,7 @@ BodyParts i Status = eqb i question ≡ true
 BodyParts i Query = eqb i question ≡ false
 BodyParts i Up = eqb i question ≡ false
 BodyParts i Down = eqb i question ≡ false
-BodyParts i (Set n d) = (eqb i question ≡ false) × (fits n d ≡ true)
+BodyParts i (Set x) = (eqb i question ≡ false) × (fits x ≡ true)
 BodyParts i Store = eqb i question ≡ false
 
 pub body-parts : (i : ℕ) (b : Body) → fitsBody i b ≡ true → BodyParts i b
@@ -45,7 +45,7 @@ body-parts i Status e = e
 body-parts i Query e = not-is e
 body-parts i Up e = not-is e
 body-parts i Down e = not-is e
-body-parts i (Set n d) e = (not-is {a = eqb i question} (search ands), search ands)
+body-parts i (Set x) e = (not-is {a = eqb i question} (search ands), search ands)
 body-parts i Store e = not-is e
 
 pub parts-body : (i : ℕ) (b : Body) → BodyParts i b → fitsBody i b ≡ true
@@ -54,7 +54,7 @@ parts-body i Status p = p
 parts-body i Query p = is-not p
 parts-body i Up p = is-not p
 parts-body i Down p = is-not p
-parts-body i (Set n d) p = and-both (is-not (p .0)) (p .1)
+parts-body i (Set x) p = and-both (is-not (p .0)) (p .1)
 parts-body i Store p = is-not p
 
 pub letter-is : isLetter (code "L") ≡ true

@@ -1,32 +1,35 @@
 -- What a message is spelled with: characters of seven bits other than `*`, at most ten of them, and then the `*`.
 -- Assumes nothing.
 use mathlib.Core.Path.{_≡_, refl, sym, ap, _∙_}
-use mathlib.Core.Bool.{true, false}
-use mathlib.Core.Logic.{inl, inr}
+use mathlib.Core.Bool.{true, false, not}
 use mathlib.Core.List.{List, [], _∷_, _++_}
 use Prim.Native.Nat.{ℕ, _+_, _/_, _%_, _<_, _≤_}
+use Prim.Native.Char.{code}
 use native.Mathlib.Omega.{arith}
 use borrow.Author.Tests.{leb-true, le-leb, lt-leb, lt-ltb}
-use denote.Enum.Declared.{tagOf}
 use lib.Dec.{leb, lit<, lit≤}
-use lib.IntN.{ℤ}
-use lib.ListN.{length, getD, set, length-append}
-use types.Run.{OneOf}
-use Rattle.refusal.proofs.Logic.{choice}
+use lib.ListN.{length, set, length-append}
+use Rattle.refusal.proofs.Logic.{choice, is-not}
+use Rattle.refusal.specs.Refusal.{gave}
+use Rattle.refusal.specs.Check.{refuseIf, first}
 use Rattle.refusal.specs.Call.{writes, refuses}
+use Rattle.refusal.proofs.Checks.{first-holds, first-passes, first-none}
+use Rattle.refusal.proofs.Calls.{writes-refused, writes-passed}
 use Rattle.refusal.specs.declared.Refusal.the-variants.{NotMessage}
 use Rattle.wire.specs.declared.Line.{Line}
 use Rattle.wire.specs.Word.{withParity, travelling}
-use Rattle.wire.specs.Line.{longest, empty, put, puts, lineOf}
+use Rattle.wire.specs.Line.{longestMessage, empty, put, puts, lineOf}
 use Rattle.wire.proofs.Lines.{puts-append, puts-empty}
+use Rattle.number.specs.declared.Decimal.{Decimal}
 use Rattle.number.specs.Data.{digit, spellData}
 use Rattle.number.proofs.Digits.{digit-is, AllDigits, data-length, data-digits}
 use Rattle.message.specs.declared.Body.{Body}
 use Rattle.message.specs.declared.Body.the-variants.{Status, Query, Up, Down, Set, Store}
+use Rattle.message.specs.declared.Kind.{Kind}
+use Rattle.message.specs.declared.Kind.the-variants.{Sign, Data}
 use Rattle.message.specs.declared.Message.{Message}
 use Rattle.message.specs.Message.{star, isAddress, isMessage}
-use Rattle.message.specs.Spell.{spellAddress, spellBody, spellOpen, spell, writeCall}
-use Rattle.message.proofs.Body.{the-type}
+use Rattle.message.specs.Spell.{spellAddress, kindOf, spellKind, spellBody, spellOpen, spell, writeCall}
 use Rattle.message.proofs.Messages.{Parts, Plain, plain-append, plain-letter, plain-digit, plain-identifier, address-most}
 
 -- ---- its characters
@@ -44,12 +47,12 @@ plain-address a e =
     (λ t. (plain-digit (digit (a / 10)) (digit-is (a / 10) (omega arith)), (plain-digit (digit (a % 10)) (digit-is (a % 10) (omega arith)), tt)))
 
 plain-body : (b : Body) → Plain (spellBody b)
-unfolding spellBody
+unfolding kindOf spellKind
 plain-body Status = (record { small = lit< tt; no-star = refl }, tt)
 plain-body Query = (record { small = lit< tt; no-star = refl }, tt)
 plain-body Up = (record { small = lit< tt; no-star = refl }, tt)
 plain-body Down = (record { small = lit< tt; no-star = refl }, tt)
-plain-body (Set n d) = (record { small = lit< tt; no-star = refl }, plain-digits (spellData n d) (data-digits n d))
+plain-body (Set x) = (record { small = lit< tt; no-star = refl }, plain-digits (spellData x) (data-digits x))
 plain-body Store = (record { small = lit< tt; no-star = refl }, tt)
 
 -- behind the letter
@@ -88,18 +91,26 @@ pub address-length : (a : ℕ) → length (spellAddress a) ≤ 2
 unfolding spellAddress
 address-length a = choice (λ (x : List ℕ). length x ≤ 2) (leb a 9) (λ t. lit≤ tt) (λ t. lit≤ tt)
 
-pub body-length : (b : Body) → length (spellBody b) ≤ 6
-unfolding spellBody
-body-length Status = lit≤ tt
-body-length Query = lit≤ tt
-body-length Up = lit≤ tt
-body-length Down = lit≤ tt
-body-length (Set n d) = omega (arith, data-length n d)
-body-length Store = lit≤ tt
+-- one character, or `#` and five digits
+pub sign-spelled : (c : ℕ) → spellKind (Sign c) ≡ c ∷ []
+unfolding spellKind
+sign-spelled c = refl
 
-pub set-length : (n : ℤ) (d : ℕ) → length (spellBody (Set n d)) ≡ 6
-unfolding spellBody
-set-length n d = omega (arith, data-length n d)
+pub data-spelled : (x : Decimal) → spellKind (Data x) ≡ code "#" ∷ spellData x
+unfolding spellKind
+data-spelled x = refl
+
+pub data-kind-length : (x : Decimal) → length (spellKind (Data x)) ≡ 6
+unfolding spellKind
+data-kind-length x = omega (arith, data-length x)
+
+kind-length : (k : Kind) → length (spellKind k) ≤ 6
+unfolding spellKind
+kind-length (Sign c) = lit≤ tt
+kind-length (Data x) = omega (arith, data-length x)
+
+pub body-length : (b : Body) → length (spellBody b) ≤ 6
+body-length b = kind-length (kindOf b)
 
 -- letter, identifier and `*` stand beside the address and the body
 pub spell-parts : (m : Message) → length (spell m) ≡ length (spellAddress (m .address)) + length (spellBody (m .body)) + 3
@@ -117,36 +128,17 @@ spell-length m = omega (arith, length-append (spellOpen m) (star ∷ []), open-l
 
 -- ---- a message with one character behind its identifier
 
-never : OneOf (0 ∷ 1 ∷ 2 ∷ 3 ∷ 5 ∷ []) 4 → ⊥
-never (inl e) = omega arith
-never (inr (inl e)) = omega arith
-never (inr (inr (inl e))) = omega arith
-never (inr (inr (inr (inl e)))) = omega arith
-never (inr (inr (inr (inr e)))) = omega arith
-
--- every body but `Set`, the variant with the number 4
-pub one-sign : (b : Body) → OneOf (0 ∷ 1 ∷ 2 ∷ 3 ∷ 5 ∷ []) (tagOf the-type b) → getD (spellBody b) 0 0 ∷ [] ≡ spellBody b
-unfolding spellBody
-one-sign Status k = refl
-one-sign Query k = refl
-one-sign Up k = refl
-one-sign Down k = refl
-one-sign (Set n d) k = absurd (never k)
-one-sign Store k = refl
-
--- as it travels, with one digit of address
-pub sign-one : (l a i : ℕ) (b : Body) → getD (spellBody b) 0 0 ∷ [] ≡ spellBody b → a ≤ 9
-    → travelling (spell (record { letter = l; address = a; identifier = i; body = b }))
-    ≡ withParity l ∷ withParity (48 + a) ∷ withParity i ∷ withParity (getD (spellBody b) 0 0) ∷ withParity star ∷ []
-unfolding spell spellOpen spellAddress travelling digit
-sign-one l a i b e h = ap (λ (bs : List ℕ). travelling ((l ∷ (spellAddress a ++ (i ∷ bs))) ++ (star ∷ []))) (sym e) ∙ rw (le-leb a 9 h)
+-- with one digit of address
+pub sign-one : (m : Message) (c : ℕ) → kindOf (m .body) ≡ Sign c → m .address ≤ 9
+    → spell m ≡ m .letter ∷ (48 + m .address) ∷ m .identifier ∷ c ∷ star ∷ []
+unfolding spell spellOpen spellAddress spellKind digit
+sign-one m c e h = rw (e, le-leb (m .address) 9 h)
 
 -- and with two
-pub sign-two : (l a i : ℕ) (b : Body) → getD (spellBody b) 0 0 ∷ [] ≡ spellBody b → 9 < a
-    → travelling (spell (record { letter = l; address = a; identifier = i; body = b }))
-    ≡ withParity l ∷ withParity (48 + a / 10) ∷ withParity (48 + a % 10) ∷ withParity i ∷ withParity (getD (spellBody b) 0 0) ∷ withParity star ∷ []
-unfolding spell spellOpen spellAddress travelling digit
-sign-two l a i b e h = ap (λ (bs : List ℕ). travelling ((l ∷ (spellAddress a ++ (i ∷ bs))) ++ (star ∷ []))) (sym e) ∙ rw (lt-leb a 9 h)
+pub sign-two : (m : Message) (c : ℕ) → kindOf (m .body) ≡ Sign c → 9 < m .address
+    → spell m ≡ m .letter ∷ (48 + m .address / 10) ∷ (48 + m .address % 10) ∷ m .identifier ∷ c ∷ star ∷ []
+unfolding spell spellOpen spellAddress spellKind digit
+sign-two m c e h = rw (e, lt-leb (m .address) 9 h)
 
 -- ---- the line of a message, put part by part: l₀ is empty, and each of the others has one part more
 
@@ -171,19 +163,26 @@ pub puts-five : (l : Line) (a b c d e : ℕ) → l .len ≤ 6
 unfolding puts put
 puts-five l a b c d e h =
     rw (
-      lt-ltb (l .len) longest (omega arith),
-      lt-ltb (l .len + 1) longest (omega arith),
-      lt-ltb (l .len + 1 + 1) longest (omega arith),
-      lt-ltb (l .len + 1 + 1 + 1) longest (omega arith),
-      lt-ltb (l .len + 1 + 1 + 1 + 1) longest (omega arith),
+      lt-ltb (l .len) longestMessage (omega arith),
+      lt-ltb (l .len + 1) longestMessage (omega arith),
+      lt-ltb (l .len + 1 + 1) longestMessage (omega arith),
+      lt-ltb (l .len + 1 + 1 + 1) longestMessage (omega arith),
+      lt-ltb (l .len + 1 + 1 + 1 + 1) longestMessage (omega arith),
     )
 
 -- ---- the call
 
-pub write-refused : (m : Message) (out : List ℕ) → isMessage m ≡ false → writeCall m out ≡ refuses NotMessage out
+pub write-is : (m : Message) (out : List ℕ) → writeCall m out ≡ writes (refuseIf (not (isMessage m)) NotMessage ∷ []) (travelling (spell m)) out
 unfolding writeCall
-write-refused m out e = rw e
+write-is m out = refl
 
-pub write-served : (m : Message) (out : List ℕ) → isMessage m ≡ true → writeCall m out ≡ writes (travelling (spell m)) out
+pub write-refused : (m : Message) (out : List ℕ) → isMessage m ≡ false → writeCall m out ≡ refuses out 7
 unfolding writeCall
-write-served m out e = rw e
+write-refused m out e = writes-refused (travelling (spell m)) out (refuseIf (not (isMessage m)) NotMessage ∷ []) 7 (first-holds (refuseIf (not (isMessage m)) NotMessage) [] (is-not e))
+
+pub message-passes : (m : Message) → isMessage m ≡ true → first (refuseIf (not (isMessage m)) NotMessage ∷ []) ≡ gave tt
+message-passes m e = first-passes (refuseIf (not (isMessage m)) NotMessage) [] (rw e) ∙ first-none
+
+pub write-served : (m : Message) (out : List ℕ) → isMessage m ≡ true → writeCall m out ≡ writes [] (travelling (spell m)) out
+unfolding writeCall
+write-served m out e = writes-passed (travelling (spell m)) out (refuseIf (not (isMessage m)) NotMessage ∷ []) (message-passes m e)

@@ -1,3 +1,3 @@
 pub mod Message
-pub mod Scan
+pub mod Prefix
 pub mod Spell

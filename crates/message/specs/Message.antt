@@ -31,7 +31,7 @@ fitsBody i Status = eqb i question
 fitsBody i Query = not (eqb i question)
 fitsBody i Up = not (eqb i question)
 fitsBody i Down = not (eqb i question)
-fitsBody i (Set n d) = not (eqb i question) && fits n d
+fitsBody i (Set x) = not (eqb i question) && fits x
 fitsBody i Store = not (eqb i question)
 
 -- a message as heard; number 7 is given for anything else

@@ -1,16 +1,17 @@
 // A message: read, tested, spelled, and written.
 ghost use mathlib.Core.Path.{_≡_};
 ghost use Prim.Native.Nat.{_≤_};
-ghost use lib.ListN.{length, getD};
-ghost use mathlib.Core.List.{[], _∷_, _++_};
-ghost use Rattle.refusal.specs.Refusal.{outcomeOf};
-ghost use Rattle.wire.specs.Word.{withParity};
+ghost use lib.ListN.{length};
+ghost use mathlib.Core.List.{[], _∷_};
+ghost use Rattle.refusal.specs.Call.{callOf};
+ghost use Rattle.wire.specs.Word.{travelling};
 ghost use Rattle.wire.specs.Line.{puts, lineOf};
 ghost use Rattle.message.specs.Message.{star, isLetter, isAddress, isIdentifier, fitsBody, isMessage};
 ghost use Rattle.number.specs.Data.{spellData, readData};
-ghost use Rattle.message.specs.Scan.{message, step, stepBody, stepData, scan, finish, parse};
-ghost use Rattle.message.specs.Spell.{spellAddress, spellBody, spell, writeCall};
+ghost use Rattle.message.specs.Prefix.{Address, message, extend, extendBody, extendData, extendAll, finish, parse};
+ghost use Rattle.message.specs.Spell.{spellAddress, kindOf, spellBody, spell, writeCall};
 use number::Data;
+use number::Decimal;
 use refusal::Refusal;
 use refusal::Written;
 use wire::Line;
@@ -21,7 +22,7 @@ pub enum Body {
     Query,
     Up,
     Down,
-    Set { number: i32, decimals: u8 },
+    Set(Decimal),
     Store,
 }
 
@@ -39,37 +40,10 @@ pub enum Parsed {
     Unheard,
 }
 
-// How far the characters of a message have come.
-pub enum Scan {
-    Start,
-    Letter {
-        letter: u8,
-    },
-    // One digit of the address.
-    Digit {
-        letter: u8,
-        address: u8,
-    },
-    // Both digits of the address.
-    Address {
-        letter: u8,
-        address: u8,
-    },
-    Identifier {
-        letter: u8,
-        address: u8,
-        identifier: u8,
-    },
-    // Behind `#`.
-    Digits {
-        letter: u8,
-        address: u8,
-        identifier: u8,
-        data: Data,
-    },
-    Complete(Message),
-    // No well-formed message begins so.
-    Wrong,
+// What stands behind an identifier: one character, or `#` and a number.
+pub enum Kind {
+    Sign(u8),
+    Data(Decimal),
 }
 
 pub fn is_letter(c: u8) -> bool
@@ -103,7 +77,7 @@ fn fits_body(identifier: u8, body: Body) -> bool
         Body::Query => identifier != b'?',
         Body::Up => identifier != b'?',
         Body::Down => identifier != b'?',
-        Body::Set { number, decimals } => (identifier != b'?') & number::fits(number, decimals),
+        Body::Set(x) => (identifier != b'?') & number::fits(x),
         Body::Store => identifier != b'?',
     }
 }
@@ -133,7 +107,7 @@ fn heard(letter: u8, address: u8, identifier: u8, body: Body) -> Parsed
 
 // Behind an identifier, one character and nothing more.
 fn one_sign(letter: u8, address: u8, identifier: u8, c: u8) -> Parsed
-    ensures { λ r. ⌜ r ≡ finish (stepBody letter address identifier c) ⌝ }
+    ensures { λ r. ⌜ r ≡ finish (extendBody letter address identifier c) ⌝ }
 {
     if c == b'?' {
         if identifier == b'?' {
@@ -158,25 +132,27 @@ fn one_sign(letter: u8, address: u8, identifier: u8, c: u8) -> Parsed
 
 // Behind `#`: five digits and nothing more.
 fn behind_hash(letter: u8, address: u8, identifier: u8, rest: &[u8]) -> Parsed
-    ensures { λ r. ⌜ r ≡ finish (stepData letter address identifier (readData (now (rest .entry)))) ⌝ }
+    ensures { λ r. ⌜ r ≡ finish (extendData letter address identifier (readData (now (rest .entry)))) ⌝ }
 {
     if rest.len() != 5 {
         return Parsed::Unheard;
     }
-    let digits = [rest[0], rest[1], rest[2], rest[3], rest[4]];
-    let data = number::read_data(digits);
+    let a = rest[0];
+    let b = rest[1];
+    let c = rest[2];
+    let d = rest[3];
+    let e = rest[4];
+    let data = number::read_data([a, b, c, d, e]);
     match data {
         Data::Partial { count: _, value: _ } => Parsed::Unheard,
-        Data::Number { number, decimals } => {
-            heard(letter, address, identifier, Body::Set { number, decimals })
-        }
+        Data::Number(x) => heard(letter, address, identifier, Body::Set(x)),
         Data::Invalid => Parsed::Unheard,
     }
 }
 
 // Behind an address: an identifier and one character.
 fn with_sign(letter: u8, address: u8, identifier: u8, c: u8) -> Parsed
-    ensures { λ r. ⌜ r ≡ finish (step (step (Scan.Address letter address) identifier) c) ⌝ }
+    ensures { λ r. ⌜ r ≡ finish (extend (extend (Address letter address) identifier) c) ⌝ }
 {
     if !is_address(address) {
         return Parsed::Unheard;
@@ -190,7 +166,7 @@ fn with_sign(letter: u8, address: u8, identifier: u8, c: u8) -> Parsed
 // Behind an address: an identifier, `#` and digits.
 fn with_data(letter: u8, address: u8, rest: &[u8]) -> Parsed
     requires { ⌜ 3 ≤ length (now rest) ⌝ }
-    ensures { λ r. ⌜ r ≡ finish (scan (Scan.Address letter address) (now (rest .entry))) ⌝ }
+    ensures { λ r. ⌜ r ≡ finish (extendAll (Address letter address) (now (rest .entry))) ⌝ }
 {
     let identifier = rest[0];
     let c = rest[1];
@@ -256,10 +232,10 @@ pub fn put_address(line: Line, address: u8) -> Line
 }
 
 // Five digits of data. Where the line has room for all of them, they are set at once.
-pub fn put_data(line: Line, number: i32, decimals: u8) -> Line
-    ensures { λ r. ⌜ r ≡ puts line (spellData number decimals) ⌝ }
+pub fn put_data(line: Line, x: Decimal) -> Line
+    ensures { λ r. ⌜ r ≡ puts line (spellData x) ⌝ }
 {
-    let digits = number::write_data(number, decimals);
+    let digits = number::write_data(x);
     let len = line.len;
     if 6 < len {
         return line.put_all(&digits);
@@ -278,82 +254,57 @@ pub fn put_data(line: Line, number: i32, decimals: u8) -> Line
     Line { bytes, len: end }
 }
 
-// The character behind an identifier, as it travels.
-pub fn sign(body: Body) -> u8
-    ensures { λ r. ⌜ r ≡ withParity (getD (spellBody body) 0 0) ⌝ }
+// What stands behind the identifier of a message with this body.
+pub fn kind_of(body: Body) -> Kind
+    ensures { λ r. ⌜ r ≡ kindOf body ⌝ }
 {
     match body {
-        Body::Status => wire::with_parity(b'?'),
-        Body::Query => wire::with_parity(b'?'),
-        Body::Up => wire::with_parity(b'+'),
-        Body::Down => wire::with_parity(b'-'),
-        Body::Set {
-            number: _,
-            decimals: _,
-        } => wire::with_parity(b'#'),
-        Body::Store => wire::with_parity(b'I'),
+        Body::Status => Kind::Sign(b'?'),
+        Body::Query => Kind::Sign(b'?'),
+        Body::Up => Kind::Sign(b'+'),
+        Body::Down => Kind::Sign(b'-'),
+        Body::Set(x) => Kind::Data(x),
+        Body::Store => Kind::Sign(b'I'),
     }
 }
 
 // A message with one digit of address and a sign, as it travels.
-pub fn with_one_digit(letter: u8, digit: u8, identifier: u8, s: u8) -> [u8; 5]
-    ensures { λ r. ⌜ r ≡ withParity letter ∷ withParity digit ∷ withParity identifier ∷ s ∷ withParity star ∷ [] ⌝ }
+pub fn with_one_digit(letter: u8, digit: u8, identifier: u8, sign: u8) -> [u8; 5]
+    ensures { λ r. ⌜ r ≡ travelling (letter ∷ digit ∷ identifier ∷ sign ∷ star ∷ []) ⌝ }
 {
     let l = wire::with_parity(letter);
     let d = wire::with_parity(digit);
     let i = wire::with_parity(identifier);
+    let s = wire::with_parity(sign);
     let e = wire::with_parity(b'*');
     [l, d, i, s, e]
 }
 
 // The same with two digits.
-pub fn with_two_digits(letter: u8, tens: u8, ones: u8, identifier: u8, s: u8) -> [u8; 6]
-    ensures { λ r. ⌜ r ≡ withParity letter ∷ withParity tens ∷ withParity ones ∷ withParity identifier ∷ s ∷ withParity star ∷ [] ⌝ }
+pub fn with_two_digits(letter: u8, tens: u8, ones: u8, identifier: u8, sign: u8) -> [u8; 6]
+    ensures { λ r. ⌜ r ≡ travelling (letter ∷ tens ∷ ones ∷ identifier ∷ sign ∷ star ∷ []) ⌝ }
 {
     let l = wire::with_parity(letter);
-    let t = wire::digit_with_parity(tens);
-    let u = wire::digit_with_parity(ones);
+    let t = wire::with_parity(tens);
+    let u = wire::with_parity(ones);
     let i = wire::with_parity(identifier);
+    let s = wire::with_parity(sign);
     let e = wire::with_parity(b'*');
     [l, t, u, i, s, e]
-}
-
-// A message with one character behind its identifier, as it travels.
-fn line_of_sign(letter: u8, address: u8, identifier: u8, body: Body) -> Line
-    ensures { λ r. ⌜ r ≡ lineOf ((letter ∷ (spellAddress address ++ (identifier ∷ getD (spellBody body) 0 0 ∷ []))) ++ (star ∷ [])) ⌝ }
-{
-    let s = sign(body);
-    if address <= 9 {
-        let a = with_one_digit(letter, 48 + address, identifier, s);
-        let bytes = [a[0], a[1], a[2], a[3], a[4], 0, 0, 0, 0, 0, 0];
-        return Line { bytes, len: 5 };
-    }
-    let a = with_two_digits(letter, 48 + address / 10, 48 + address % 10, identifier, s);
-    let bytes = [a[0], a[1], a[2], a[3], a[4], a[5], 0, 0, 0, 0, 0];
-    Line { bytes, len: 6 }
-}
-
-// A message with data, as it travels.
-pub fn line_of_data(letter: u8, address: u8, identifier: u8, number: i32, decimals: u8) -> Line
-    ensures { λ r. ⌜ r ≡ lineOf (spell (message letter address identifier (Body.Set number decimals))) ⌝ }
-{
-    let front = put_address(Line::new().put(letter), address);
-    let hash = front.put(identifier).put(b'#');
-    put_data(hash, number, decimals).put(b'*')
 }
 
 // The message as it travels, `*` included.
 pub fn spell(message: Message) -> Line
     ensures { λ r. ⌜ r ≡ lineOf (spell message) ⌝ }
 {
-    let letter = message.letter;
-    let address = message.address;
-    let identifier = message.identifier;
     let body = message.body;
-    let Body::Set { number, decimals } = body else {
-        return line_of_sign(letter, address, identifier, body);
-    };
-    line_of_data(letter, address, identifier, number, decimals)
+    let letter = Line::new().put(message.letter);
+    let address = put_address(letter, message.address);
+    let front = address.put(message.identifier);
+    match kind_of(body) {
+        Kind::Sign(c) => front.put(c).put(b'*'),
+        Kind::Data(x) => put_data(front.put(b'#'), x).put(b'*'),
+    }
 }
 
 fn address_len(address: u8) -> usize
@@ -365,16 +316,9 @@ fn address_len(address: u8) -> usize
 fn body_len(body: Body) -> usize
     ensures { λ r. ⌜ r ≡ length (spellBody body) ⌝ }
 {
-    match body {
-        Body::Status => 1,
-        Body::Query => 1,
-        Body::Up => 1,
-        Body::Down => 1,
-        Body::Set {
-            number: _,
-            decimals: _,
-        } => 6,
-        Body::Store => 1,
+    match kind_of(body) {
+        Kind::Sign(_) => 1,
+        Kind::Data(_) => 6,
     }
 }
 
@@ -389,8 +333,7 @@ pub fn spelled_len(message: Message) -> usize
 
 // The message at the front of a buffer.
 pub fn write(message: Message, out: &mut [u8]) -> Written
-    ensures answers { λ r. ⌜ outcomeOf r ≡ writeCall message (now (out .entry)) .outcome ⌝ }
-    ensures leaves { λ r. ⌜ now (out .exit) ≡ writeCall message (now (out .entry)) .buffer ⌝ }
+    ensures { λ r. ⌜ callOf r (now (out .exit)) ≡ writeCall message (now (out .entry)) ⌝ }
 {
     if !is_message(message) {
         return Written::Refused(Refusal::NotMessage);

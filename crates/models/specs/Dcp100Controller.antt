@@ -19,7 +19,7 @@ dcp100Controller =
     line (code "I") 2 2 1 (pos 1) (pos 9959) (pos 500) ∷  -- Reset Value or Loop Alarm Time, 003:962
     line (code "J") 2 0 1 (minus 100) (pos 100) (pos 25) ∷  -- Manual Reset, 003:963
     line (code "K") 2 0 1 (minus 20) (pos 20) (pos 0) ∷  -- Overlap/Deadband Value, 003:964
-    line (code "L") 1 0 1 (pos 0) (pos 255) (pos 0) ∷  -- Controller Status, 003:965
+    line (code "L") 1 0 1 (pos 0) (pos 511) (pos 0) ∷  -- Controller Status, 003:965; nine bits, 002:1434-1442
     line (code "M") 1 1 1 (pos 0) (pos 1000) (pos 0) ∷  -- Process Variable Value, 003:966
     line (code "N") 2 1 5 (pos 5) (pos 5120) (pos 320) ∷  -- Output 1 Cycle Time, 003:967
     line (code "O") 2 1 5 (pos 5) (pos 5120) (pos 320) ∷  -- Output 2 Cycle Time, 003:968

@@ -23,7 +23,7 @@ const DCP100_CONTROLLER: [[i32; 7]; 28] = [
     [73, 2, 2, 1, 1, 9959, 500], // `I` Reset Value or Loop Alarm Time
     [74, 2, 0, 1, -100, 100, 25], // `J` Manual Reset
     [75, 2, 0, 1, -20, 20, 0], // `K` Overlap/Deadband Value
-    [76, 1, 0, 1, 0, 255, 0], // `L` Controller Status
+    [76, 1, 0, 1, 0, 511, 0], // `L` Controller Status
     [77, 1, 1, 1, 0, 1000, 0], // `M` Process Variable Value
     [78, 2, 1, 5, 5, 5120, 320], // `N` Output 1 Cycle Time
     [79, 2, 1, 5, 5, 5120, 320], // `O` Output 2 Cycle Time
@@ -130,11 +130,19 @@ fn put_values(table: &[[i32; 7]], values: &mut [i32])
     }
 }
 
+// Each table is also a function, so that a check takes its numbers in once and not for each use.
+fn controller() -> [[i32; 7]; 28]
+    ensures { λ r. ⌜ r ≡ dcp100Controller ⌝ }
+{
+    DCP100_CONTROLLER
+}
+
 pub fn dcp100_controller() -> [i32; 168]
     ensures { λ r. ⌜ r ≡ sheetOf dcp100Controller ⌝ }
 {
     let mut sheet = [0; 168];
-    put_rows(&DCP100_CONTROLLER, &mut sheet);
+    let table = controller();
+    put_rows(&table, &mut sheet);
     sheet
 }
 
@@ -142,15 +150,23 @@ pub fn dcp100_controller_values() -> [i32; 128]
     ensures { λ r. ⌜ r ≡ valuesOf dcp100Controller ⌝ }
 {
     let mut values = [0; 128];
-    put_values(&DCP100_CONTROLLER, &mut values);
+    let table = controller();
+    put_values(&table, &mut values);
     values
+}
+
+fn programmer() -> [[i32; 7]; 22]
+    ensures { λ r. ⌜ r ≡ dcp100Programmer ⌝ }
+{
+    DCP100_PROGRAMMER
 }
 
 pub fn dcp100_programmer() -> [i32; 132]
     ensures { λ r. ⌜ r ≡ sheetOf dcp100Programmer ⌝ }
 {
     let mut sheet = [0; 132];
-    put_rows(&DCP100_PROGRAMMER, &mut sheet);
+    let table = programmer();
+    put_rows(&table, &mut sheet);
     sheet
 }
 
@@ -158,15 +174,23 @@ pub fn dcp100_programmer_values() -> [i32; 128]
     ensures { λ r. ⌜ r ≡ valuesOf dcp100Programmer ⌝ }
 {
     let mut values = [0; 128];
-    put_values(&DCP100_PROGRAMMER, &mut values);
+    let table = programmer();
+    put_values(&table, &mut values);
     values
+}
+
+fn indicator() -> [[i32; 7]; 19]
+    ensures { λ r. ⌜ r ≡ udi1500 ⌝ }
+{
+    UDI1500
 }
 
 pub fn udi1500() -> [i32; 114]
     ensures { λ r. ⌜ r ≡ sheetOf udi1500 ⌝ }
 {
     let mut sheet = [0; 114];
-    put_rows(&UDI1500, &mut sheet);
+    let table = indicator();
+    put_rows(&table, &mut sheet);
     sheet
 }
 
@@ -174,6 +198,7 @@ pub fn udi1500_values() -> [i32; 128]
     ensures { λ r. ⌜ r ≡ valuesOf udi1500 ⌝ }
 {
     let mut values = [0; 128];
-    put_values(&UDI1500, &mut values);
+    let table = indicator();
+    put_values(&table, &mut values);
     values
 }

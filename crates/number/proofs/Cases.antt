@@ -6,33 +6,33 @@ use mathlib.Core.List.{[], _∷_}
 use lib.IntN.{pos, negsuc}
 use Rattle.number.specs.declared.Data.the-variants.{Partial, Number, Invalid}
 use Rattle.number.specs.Number.{inRange, isMultiple, cutDown, cut}
-use Rattle.number.specs.Data.{digit, isDigit, digitOf, fits, codeOf, fiveDigits, spellData, decode, next, readFrom, readData}
+use Rattle.number.specs.Data.{digit, isDigit, digitOf, fits, codeOf, fiveDigits, spellData, decode, readNext, readFrom, withDecimals, readData}
 
 -- case e: 2.3 is cut to 2.0 and not rounded to 2.5, and is written 00201
 pub case-e : cut (pos 23) (pos 5) ≡ pos 20
 unfolding cut cutDown inRange
 case-e = refl
 
-pub case-e-written : spellData (pos 20) 1 ≡ 48 ∷ 48 ∷ 50 ∷ 48 ∷ 49 ∷ []
+pub case-e-written : spellData (withDecimals (pos 20) 1) ≡ 48 ∷ 48 ∷ 50 ∷ 48 ∷ 49 ∷ []
 unfolding spellData fiveDigits codeOf digit
 case-e-written = refl
 
 -- case f: 00126 is -1.2, which is cut to -1.5 and not toward zero, and written 00156
-pub case-f-read : readData (48 ∷ 48 ∷ 49 ∷ 50 ∷ 54 ∷ []) ≡ Number (negsuc 11) 1
-unfolding readData readFrom next decode isDigit digitOf
+pub case-f-read : readData (48 ∷ 48 ∷ 49 ∷ 50 ∷ 54 ∷ []) ≡ Number (withDecimals (negsuc 11) 1)
+unfolding readData readFrom readNext decode isDigit digitOf
 case-f-read = refl
 
 pub case-f : cut (negsuc 11) (pos 5) ≡ negsuc 14
 unfolding cut cutDown inRange
 case-f = refl
 
-pub case-f-written : spellData (negsuc 14) 1 ≡ 48 ∷ 48 ∷ 49 ∷ 53 ∷ 54 ∷ []
+pub case-f-written : spellData (withDecimals (negsuc 14) 1) ≡ 48 ∷ 48 ∷ 49 ∷ 53 ∷ 54 ∷ []
 unfolding spellData fiveDigits codeOf digit
 case-f-written = refl
 
 -- case h: 100.3 is out of range, though its cut is not; the greatest itself is in range
-pub case-h-read : readData (49 ∷ 48 ∷ 48 ∷ 51 ∷ 49 ∷ []) ≡ Number (pos 1003) 1
-unfolding readData readFrom next decode isDigit digitOf
+pub case-h-read : readData (49 ∷ 48 ∷ 48 ∷ 51 ∷ 49 ∷ []) ≡ Number (withDecimals (pos 1003) 1)
+unfolding readData readFrom readNext decode isDigit digitOf
 case-h-read = refl
 
 pub case-h : inRange (pos 0) (pos 1003) (pos 1000) ≡ false
@@ -44,30 +44,30 @@ unfolding cut cutDown inRange
 case-h-cut = refl
 
 -- case i: minus zero is read as zero, and zero is written 00001
-pub case-i-read : readData (48 ∷ 48 ∷ 48 ∷ 48 ∷ 54 ∷ []) ≡ Number (pos 0) 1
-unfolding readData readFrom next decode isDigit digitOf
+pub case-i-read : readData (48 ∷ 48 ∷ 48 ∷ 48 ∷ 54 ∷ []) ≡ Number (withDecimals (pos 0) 1)
+unfolding readData readFrom readNext decode isDigit digitOf
 case-i-read = refl
 
-pub case-i-written : spellData (pos 0) 1 ≡ 48 ∷ 48 ∷ 48 ∷ 48 ∷ 49 ∷ []
+pub case-i-written : spellData (withDecimals (pos 0) 1) ≡ 48 ∷ 48 ∷ 48 ∷ 48 ∷ 49 ∷ []
 unfolding spellData fiveDigits codeOf digit
 case-i-written = refl
 
 -- case m: code 4 is not well formed, and neither is code 9
 pub case-m : readData (48 ∷ 48 ∷ 51 ∷ 48 ∷ 52 ∷ []) ≡ Invalid
-unfolding readData readFrom next decode isDigit digitOf
+unfolding readData readFrom readNext decode isDigit digitOf
 case-m = refl
 
 pub code-nine : readData (48 ∷ 48 ∷ 51 ∷ 48 ∷ 57 ∷ []) ≡ Invalid
-unfolding readData readFrom next decode isDigit digitOf
+unfolding readData readFrom readNext decode isDigit digitOf
 code-nine = refl
 
 -- data may be short, and is never long
 pub four-characters : readData (48 ∷ 48 ∷ 51 ∷ 48 ∷ []) ≡ Partial 4 30
-unfolding readData readFrom next decode isDigit digitOf
+unfolding readData readFrom readNext decode isDigit digitOf
 four-characters = refl
 
 pub six-characters : readData (48 ∷ 48 ∷ 51 ∷ 48 ∷ 49 ∷ 48 ∷ []) ≡ Invalid
-unfolding readData readFrom next decode isDigit digitOf
+unfolding readData readFrom readNext decode isDigit digitOf
 six-characters = refl
 
 -- a step of 0 has no multiples, and cuts nothing
@@ -80,6 +80,6 @@ unfolding cut cutDown inRange
 step-zero-cut = refl
 
 -- four decimals don't fit
-pub decimals-four : fits (pos 0) 4 ≡ false
+pub decimals-four : fits (withDecimals (pos 0) 4) ≡ false
 unfolding fits
 decimals-four = refl

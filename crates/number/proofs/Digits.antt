@@ -7,9 +7,9 @@ use Prim.Native.Nat.{ℕ, _+_, _%_, _≤_}
 use native.Mathlib.Omega.{arith}
 use borrow.Author.Tests.{leb-true, le-leb}
 use lib.Dec.{leb}
-use lib.IntN.{ℤ}
 use lib.ListN.{length}
 use Rattle.refusal.proofs.Logic.{and-left, and-right, and-both}
+use Rattle.number.specs.declared.Decimal.{Decimal}
 use Rattle.number.specs.Data.{digit, isDigit, digitOf, fiveDigits, spellData}
 
 pub digit-ends : (c : ℕ) → isDigit c ≡ true → (48 ≤ c) × (c ≤ 57)
@@ -44,10 +44,10 @@ AllDigits (c ∷ cs) = (isDigit c ≡ true) × AllDigits cs
 last-digit : (n : ℕ) → isDigit (digit (n % 10)) ≡ true
 last-digit n = digit-is (n % 10) (omega arith)
 
-pub data-digits : (n : ℤ) (d : ℕ) → AllDigits (spellData n d)
+pub data-digits : (x : Decimal) → AllDigits (spellData x)
 unfolding spellData fiveDigits
-data-digits n d = (last-digit _, (last-digit _, (last-digit _, (last-digit _, (last-digit _, tt)))))
+data-digits x = (last-digit _, (last-digit _, (last-digit _, (last-digit _, (last-digit _, tt)))))
 
-pub data-length : (n : ℤ) (d : ℕ) → length (spellData n d) ≡ 5
+pub data-length : (x : Decimal) → length (spellData x) ≡ 5
 unfolding spellData fiveDigits
-data-length n d = refl
+data-length x = refl

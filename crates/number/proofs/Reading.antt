@@ -14,49 +14,52 @@ use lib.IntN.{ℤ, pos, negsuc, negℤ, natAbs}
 use lib.ListN.{length, getD}
 use Rattle.refusal.proofs.Logic.{and-left, and-right, and-both, choice}
 use Rattle.number.specs.declared.Data.{Data}
+use Rattle.number.specs.declared.Decimal.{Decimal}
 use Rattle.number.specs.declared.Data.the-variants.{Partial, Number, Invalid}
-use Rattle.number.specs.Data.{digit, isDigit, digitOf, fits, codeOf, fiveDigits, spellData, decode, start, next, readFrom, readData}
+use Rattle.number.specs.Data.{digit, isDigit, digitOf, withDecimals, fits, codeOf, fiveDigits, spellData, decode, start, readNext, readFrom, readData}
 use Rattle.number.proofs.Signed.{natAbs-minus}
 use Rattle.number.proofs.Digits.{digit-is, digit-back, digit-below, digit-again, AllDigits}
 
 -- ---- what fits
 
-pub fits-within : (n : ℤ) (d : ℕ) → fits n d ≡ true → (natAbs n ≤ 9999) × (d ≤ 3)
+pub fits-within : (x : Decimal) → fits x ≡ true → (natAbs (x .number) ≤ 9999) × (x .decimals ≤ 3)
 unfolding fits
-fits-within n d e =
-    (leb-true (natAbs n) 9999 (and-left (leb (natAbs n) 9999) (leb d 3) e), leb-true d 3 (and-right (leb (natAbs n) 9999) (leb d 3) e))
+fits-within x e =
+    let m = leb (natAbs (x .number)) 9999 in
+    let d = leb (x .decimals) 3 in
+    (leb-true (natAbs (x .number)) 9999 (and-left m d e), leb-true (x .decimals) 3 (and-right m d e))
 
-pub within-fits : (n : ℤ) (d : ℕ) → natAbs n ≤ 9999 → d ≤ 3 → fits n d ≡ true
+pub within-fits : (x : Decimal) → natAbs (x .number) ≤ 9999 → x .decimals ≤ 3 → fits x ≡ true
 unfolding fits
-within-fits n d h k = and-both (le-leb (natAbs n) 9999 h) (le-leb d 3 k)
+within-fits x h k = and-both (le-leb (natAbs (x .number)) 9999 h) (le-leb (x .decimals) 3 k)
 
 -- ---- one character more
 
 -- a digit behind fewer than four digits, and the code behind four
-pub next-digit : (k n c : ℕ) → isDigit c ≡ true → n ≤ 9999 → k < 4 → next (Partial k n) c ≡ Partial (k + 1) (n * 10 + digitOf c)
-unfolding next
+pub next-digit : (k n c : ℕ) → isDigit c ≡ true → n ≤ 9999 → k < 4 → readNext (Partial k n) c ≡ Partial (k + 1) (n * 10 + digitOf c)
+unfolding readNext
 next-digit k n c e h l = simp (e, le-leb n 9999 h, lt-ltb k 4 l)
 
-pub next-code : (n c : ℕ) → isDigit c ≡ true → n ≤ 9999 → next (Partial 4 n) c ≡ decode n (digitOf c)
-unfolding next
+pub next-code : (n c : ℕ) → isDigit c ≡ true → n ≤ 9999 → readNext (Partial 4 n) c ≡ decode n (digitOf c)
+unfolding readNext
 next-code n c e h = simp (e, le-leb n 9999 h)
 
-pub decode-pos : (m d : ℕ) → d ≤ 3 → decode m d ≡ Number (pos m) d
+pub decode-pos : (m d : ℕ) → d ≤ 3 → decode m d ≡ Number (withDecimals (pos m) d)
 unfolding decode
 decode-pos m d h = simp (le-leb d 3 h)
 
-pub decode-neg : (m d : ℕ) → d ≤ 3 → decode m (d + 5) ≡ Number (negℤ (pos m)) d
+pub decode-neg : (m d : ℕ) → d ≤ 3 → decode m (d + 5) ≡ Number (withDecimals (negℤ (pos m)) d)
 unfolding decode
 decode-neg m d h =
     simp (lt-leb (d + 5) 3 (omega arith), le-leb 5 (d + 5) (omega arith), le-leb (d + 5) 8 (omega arith))
-    (ap (Number (negℤ (pos m))) (back d))
+    (ap (λ (e : ℕ). Number (withDecimals (negℤ (pos m)) e)) (back d))
   where
     back : (d : ℕ) → d + 5 - 5 ≡ d
     back d = omega arith
 
 -- ---- read what is written
 
-step : (k n a : ℕ) {m : ℕ} → a ≤ 9 → n ≤ 9999 → k < 4 → n * 10 + a ≡ m → next (Partial k n) (digit a) ≡ Partial (k + 1) m
+step : (k n a : ℕ) {m : ℕ} → a ≤ 9 → n ≤ 9999 → k < 4 → n * 10 + a ≡ m → readNext (Partial k n) (digit a) ≡ Partial (k + 1) m
 step k n a ha h l e =
     next-digit k n (digit a) (digit-is a ha) h l ∙ ap (Partial (k + 1)) (ap (λ (j : ℕ). n * 10 + j) (digit-back a) ∙ e)
 
@@ -88,19 +91,22 @@ read-code m k h l =
     same k l = omega arith
 
 -- reading what is written gives the number and its decimals
-pub read-written : (n : ℤ) (d : ℕ) → fits n d ≡ true → readData (spellData n d) ≡ Number n d
+written : (n : ℤ) (d : ℕ) → fits (withDecimals n d) ≡ true → readData (spellData (withDecimals n d)) ≡ Number (withDecimals n d)
 unfolding spellData codeOf
-read-written (pos n) d e =
-    let w = fits-within (pos n) d e in read-code n d (w .0) (omega (arith, w .1)) ∙ decode-pos n d (w .1)
-read-written (negsuc n) d e =
-    let w = fits-within (negsuc n) d e in
+written (pos n) d e =
+    let w = fits-within (withDecimals (pos n) d) e in read-code n d (w .0) (omega (arith, w .1)) ∙ decode-pos n d (w .1)
+written (negsuc n) d e =
+    let w = fits-within (withDecimals (negsuc n) d) e in
     read-code (suc n) (d + 5) (w .0) (omega (arith, w .1)) ∙ decode-neg (suc n) d (w .1)
 
+pub read-written : (x : Decimal) → fits x ≡ true → readData (spellData x) ≡ Number x
+read-written x e = written (x .number) (x .decimals) e
+
 -- two numbers that are written alike are the same, decimals too
-pub spell-injective : (n m : ℤ) (d e : ℕ) → fits n d ≡ true → fits m e ≡ true → spellData n d ≡ spellData m e → (n ≡ m) × (d ≡ e)
-spell-injective n m d e p q h =
-    let same : Number n d ≡ Number m e = sym (read-written n d p) ∙ ap readData h ∙ read-written m e q in
-    (cc, cc)
+pub spell-injective : (x y : Decimal) → fits x ≡ true → fits y ≡ true → spellData x ≡ spellData y → x ≡ y
+spell-injective x y p q h =
+    let same : Number x ≡ Number y = sym (read-written x p) ∙ ap readData h ∙ read-written y q in
+    cc
 
 -- ---- what has been read
 
@@ -113,7 +119,7 @@ lastDigits (suc k) n = lastDigits k (n / 10) ++ digit (n % 10) ∷ []
 -- and then they are five
 abbrev pub Read : List ℕ → Data → Type 0
 Read cs (Partial k n) = (k ≤ 4) × (n < 10 ^ k) × (cs ≡ lastDigits k n)
-Read cs (Number n d) = (fits n d ≡ true) × ((n ≡ pos 0 → digitOf (getD cs 4 0) ≤ 3) → spellData n d ≡ cs) × (length cs ≡ 5)
+Read cs (Number x) = (fits x ≡ true) × ((x .number ≡ pos 0 → digitOf (getD cs 4 0) ≤ 3) → spellData x ≡ cs) × (length cs ≡ 5)
 Read cs Invalid = Unit {0}
 
 small : (k n : ℕ) → k ≤ 4 → n < 10 ^ k → n ≤ 9999
@@ -143,7 +149,7 @@ five-are n c e =
     let same : digitOf c % 10 ≡ digitOf c = omega arith in
     ap (λ (y : ℕ). lastDigits 4 n ++ y ∷ []) (ap digit same ∙ digit-again c e)
 
-below : (n k : ℕ) → 5 ≤ k → (n ≡ 0 → k ≤ 3) → spellData (negℤ (pos n)) (k - 5) ≡ fiveDigits n k
+below : (n k : ℕ) → 5 ≤ k → (n ≡ 0 → k ≤ 3) → spellData (withDecimals (negℤ (pos n)) (k - 5)) ≡ fiveDigits n k
 unfolding spellData codeOf
 below zero k h z = absurd (never (z refl) h)
   where
@@ -155,21 +161,21 @@ coded : (n c : ℕ) → isDigit c ≡ true → n ≤ 9999 → Read (lastDigits 4
 unfolding decode spellData codeOf
 coded n c e h =
     choice (Read (lastDigits 4 n ++ c ∷ [])) (leb (digitOf c) 3)
-    (λ t. (within-fits (pos n) (digitOf c) h (leb-true (digitOf c) 3 t), (λ z. five-are n c e), refl))
+    (λ t. (within-fits (withDecimals (pos n) (digitOf c)) h (leb-true (digitOf c) 3 t), (λ z. five-are n c e), refl))
     (λ t.
     choice (Read (lastDigits 4 n ++ c ∷ [])) (leb 5 (digitOf c) && leb (digitOf c) 8)
     (λ u.
     let low : 5 ≤ digitOf c = leb-true 5 (digitOf c) (and-left (leb 5 (digitOf c)) (leb (digitOf c) 8) u) in
     let high : digitOf c ≤ 8 = leb-true (digitOf c) 8 (and-right (leb 5 (digitOf c)) (leb (digitOf c) 8) u) in (
-      within-fits (negℤ (pos n)) (digitOf c - 5) (omega (arith, natAbs-minus (pos n))) (omega arith),
+      within-fits (withDecimals (negℤ (pos n)) (digitOf c - 5)) (omega (arith, natAbs-minus (pos n))) (omega arith),
       (λ z. below n (digitOf c) low (λ o. z (ap (λ (m : ℕ). negℤ (pos m)) o)) ∙ five-are n c e),
       refl,
     ))
     (λ u. tt))
 
 -- each character keeps it
-pub next-read : (cs : List ℕ) (x : Data) (c : ℕ) → Read cs x → Read (cs ++ c ∷ []) (next x c)
-unfolding next
+pub next-read : (cs : List ℕ) (x : Data) (c : ℕ) → Read cs x → Read (cs ++ c ∷ []) (readNext x c)
+unfolding readNext
 next-read cs (Partial k n) c r =
     choice (Read (cs ++ c ∷ [])) (isDigit c && leb n 9999)
     (λ t.
@@ -181,35 +187,35 @@ next-read cs (Partial k n) c r =
     let q : cs ≡ lastDigits 4 n = r .2 ∙ ap (λ (j : ℕ). lastDigits j n) four in
     subst (λ (xs : List ℕ). Read (xs ++ c ∷ []) (decode n (digitOf c))) (sym q) (coded n c e (small k n (r .0) (r .1)))))
     (λ t. tt)
-next-read cs (Number n d) c r = tt
+next-read cs (Number x) c r = tt
 next-read cs Invalid c r = tt
 
 read-from : (cs ds : List ℕ) (x : Data) → Read cs x → Read (cs ++ ds) (readFrom x ds)
 unfolding readFrom
 read-from cs [] x r = rw append-nil r
-read-from cs (d ∷ ds) x r = rw append-assoc at (read-from (cs ++ d ∷ []) ds (next x d) (next-read cs x d r))
+read-from cs (d ∷ ds) x r = rw append-assoc at (read-from (cs ++ d ∷ []) ds (readNext x d) (next-read cs x d r))
 
 pub read-is : (cs : List ℕ) → Read cs (readData cs)
 unfolding readData
 read-is cs = read-from [] cs start (lit≤ tt, omega arith, refl)
 
 -- what is read fits
-pub read-fits : (cs : List ℕ) (n : ℤ) (d : ℕ) → readData cs ≡ Number n d → fits n d ≡ true
-read-fits cs n d e = subst (Read cs) e (read-is cs) .0
+pub read-fits : (cs : List ℕ) (x : Decimal) → readData cs ≡ Number x → fits x ≡ true
+read-fits cs x e = subst (Read cs) e (read-is cs) .0
 
 -- and has five characters
-pub read-length : (cs : List ℕ) (n : ℤ) (d : ℕ) → readData cs ≡ Number n d → length cs ≡ 5
-read-length cs n d e = subst (Read cs) e (read-is cs) .2
+pub read-length : (cs : List ℕ) (x : Decimal) → readData cs ≡ Number x → length cs ≡ 5
+read-length cs x e = subst (Read cs) e (read-is cs) .2
 
 -- what is read is written as the same characters, unless they are minus zero: a zero whose code is not one of 0 to 3
-pub written-read : (cs : List ℕ) (n : ℤ) (d : ℕ) → readData cs ≡ Number n d → (n ≡ pos 0 → digitOf (getD cs 4 0) ≤ 3) → spellData n d ≡ cs
-written-read cs n d e z = subst (Read cs) e (read-is cs) .1 z
+pub written-read : (cs : List ℕ) (x : Decimal) → readData cs ≡ Number x → (x .number ≡ pos 0 → digitOf (getD cs 4 0) ≤ 3) → spellData x ≡ cs
+written-read cs x e z = subst (Read cs) e (read-is cs) .1 z
 
 -- and minus zero is never written
-pub zero-code : (d : ℕ) → fits (pos 0) d ≡ true → digitOf (getD (spellData (pos 0) d) 4 0) ≤ 3
+pub zero-code : (d : ℕ) → fits (withDecimals (pos 0) d) ≡ true → digitOf (getD (spellData (withDecimals (pos 0) d)) 4 0) ≤ 3
 unfolding spellData fiveDigits codeOf
 zero-code d e =
-    omega (arith, fits-within (pos 0) d e .1, digit-back (d % 10))
+    omega (arith, fits-within (withDecimals (pos 0) d) e .1, digit-back (d % 10))
 
 -- data that is not yet all there: as many digits as were counted, and those of its value
 pub partial-digits : (cs : List ℕ) (k n : ℕ) → readData cs ≡ Partial k n → (k ≤ 4) × (n < 10 ^ k) × (cs ≡ lastDigits k n)
@@ -220,7 +226,7 @@ partial-digits cs k n e = subst (Read cs) e (read-is cs)
 read-parts : (x : Data) (cs ds : List ℕ) → readFrom x (cs ++ ds) ≡ readFrom (readFrom x cs) ds
 unfolding readFrom
 read-parts x [] ds = refl
-read-parts x (c ∷ cs) ds = read-parts (next x c) cs ds
+read-parts x (c ∷ cs) ds = read-parts (readNext x c) cs ds
 
 pub read-more : (cs ds : List ℕ) → readData (cs ++ ds) ≡ readFrom (readData cs) ds
 unfolding readData
@@ -228,7 +234,7 @@ read-more cs ds = read-parts start cs ds
 
 -- no character makes good what is no data
 pub invalid-stays : (cs : List ℕ) → readFrom Invalid cs ≡ Invalid
-unfolding readFrom next
+unfolding readFrom readNext
 invalid-stays [] = refl
 invalid-stays (c ∷ cs) = invalid-stays cs
 
@@ -238,9 +244,8 @@ pub record Completion (k n : ℕ) : Type 0 where
   pub rest : List ℕ
   pub digits : AllDigits rest
   pub whole : k + length rest ≡ 5
-  pub number : ℤ
-  pub decimals : ℕ
-  pub reads : readFrom (Partial k n) rest ≡ Number number decimals
+  pub number : Decimal
+  pub reads : readFrom (Partial k n) rest ≡ Number number
 
 -- by zeros, for j digits and the code
 by-zeros : (j k n : ℕ) → k + j ≡ 4 → n < 10 ^ k → Completion k n
@@ -251,10 +256,9 @@ by-zeros zero k n e l =
       rest = digit 0 ∷ [];
       digits = (digit-is 0 (lit≤ tt), tt);
       whole = omega arith;
-      number = pos n;
-      decimals = 0;
+      number = withDecimals (pos n) 0;
       reads =
-          ap (λ (j : ℕ). next (Partial j n) (digit 0)) four
+          ap (λ (j : ℕ). readNext (Partial j n) (digit 0)) four
           ∙ next-code n (digit 0) (digit-is 0 (lit≤ tt)) (small k n (omega arith) l)
           ∙ ap (decode n) (digit-back 0)
           ∙ decode-pos n 0 (lit≤ tt);
@@ -267,7 +271,6 @@ by-zeros (suc j) k n e l =
       digits = (digit-is 0 (lit≤ tt), r .digits);
       whole = one-more k (length (r .rest)) (r .whole);
       number = r .number;
-      decimals = r .decimals;
       reads =
           ap (λ (x : Data). readFrom x (r .rest)) (step k n 0 (lit≤ tt) (small k n (omega arith) l) (omega arith) (omega arith)) ∙ r .reads;
     }
@@ -283,10 +286,10 @@ partial-viable cs k n e =
     let p = partial-digits cs k n e in completion k n (p .0) (p .1)
 
 -- nothing follows five digits, or what is no data
-pub next-number : (n : ℤ) (d c : ℕ) → next (Number n d) c ≡ Invalid
-unfolding next
-next-number n d c = refl
+pub next-number : (x : Decimal) (c : ℕ) → readNext (Number x) c ≡ Invalid
+unfolding readNext
+next-number x c = refl
 
-pub next-invalid : (c : ℕ) → next Invalid c ≡ Invalid
-unfolding next
+pub next-invalid : (c : ℕ) → readNext Invalid c ≡ Invalid
+unfolding readNext
 next-invalid c = refl

@@ -4,6 +4,7 @@ use mathlib.Core.List.{List, [], _∷_}
 use Prim.Native.Nat.{ℕ, _+_, _-_, _*_, _/_, _%_}
 use lib.Dec.{ltb, leb}
 use lib.IntN.{ℤ, pos, negsuc, negℤ, natAbs}
+use Rattle.number.specs.declared.Decimal.{Decimal}
 use Rattle.number.specs.declared.Data.{Data}
 use Rattle.number.specs.declared.Data.the-variants.{Partial, Number, Invalid}
 
@@ -17,9 +18,13 @@ isDigit c = leb 48 c && leb c 57
 unfoldable pub digitOf : ℕ → ℕ
 digitOf c = c - 48
 
+-- a number in units of its last decimal, and how many decimals it has
+abbrev pub withDecimals : ℤ → ℕ → Decimal
+withDecimals n d = record { number = n; decimals = d }
+
 -- what five digits can say: at most four digits of number, at most three decimals
-unfoldable pub fits : ℤ → ℕ → Bool
-fits n d = leb (natAbs n) 9999 && leb d 3
+unfoldable pub fits : Decimal → Bool
+fits x = leb (natAbs (x .number)) 9999 && leb (x .decimals) 3
 
 -- ---- written
 
@@ -32,8 +37,9 @@ codeOf (negsuc n) d = d + 5
 unfoldable pub fiveDigits : ℕ → ℕ → List ℕ
 fiveDigits m k = digit (m / 10 / 10 / 10 % 10) ∷ digit (m / 10 / 10 % 10) ∷ digit (m / 10 % 10) ∷ digit (m % 10) ∷ digit (k % 10) ∷ []
 
-unfoldable pub spellData : ℤ → ℕ → List ℕ
-spellData n d = fiveDigits (natAbs n) (codeOf n d)
+-- a number as five digits
+unfoldable pub spellData : Decimal → List ℕ
+spellData x = fiveDigits (natAbs (x .number)) (codeOf (x .number) (x .decimals))
 
 -- ---- read, one character after the other
 
@@ -41,25 +47,27 @@ spellData n d = fiveDigits (natAbs n) (codeOf n d)
 -- "Minus zero is read as zero": the negative of zero is zero.
 unfoldable pub decode : ℕ → ℕ → Data
 decode m k =
-    cond (leb k 3) (Number (pos m) k)
-    (cond (leb 5 k && leb k 8) (Number (negℤ (pos m)) (k - 5)) Invalid)
+    cond (leb k 3) (Number (withDecimals (pos m) k))
+    (cond (leb 5 k && leb k 8) (Number (withDecimals (negℤ (pos m)) (k - 5))) Invalid)
 
 -- before the first character
 abbrev pub start : Data
 start = Partial 0 0
 
 -- one character more: a digit of the number, or behind four digits the code; a value that four digits can't make is no data
-unfoldable pub next : Data → ℕ → Data
-next (Partial k n) c =
+unfoldable pub readNext : Data → ℕ → Data
+readNext (Partial k n) c =
     cond (isDigit c && leb n 9999)
     (cond (ltb k 4) (Partial (k + 1) (n * 10 + digitOf c)) (decode n (digitOf c)))
     Invalid
-next (Number n d) c = Invalid
-next Invalid c = Invalid
+readNext (Number x) c = Invalid
+readNext Invalid c = Invalid
 
+-- these characters more
 unfoldable pub readFrom : Data → List ℕ → Data
 readFrom x [] = x
-readFrom x (c ∷ cs) = readFrom (next x c) cs
+readFrom x (c ∷ cs) = readFrom (readNext x c) cs
 
+-- all characters of the data
 unfoldable pub readData : List ℕ → Data
 readData cs = readFrom start cs

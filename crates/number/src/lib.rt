@@ -6,12 +6,18 @@ ghost use Prim.Native.Nat.{_%_, _≤_};
 ghost use lib.IntN.{pos, natAbs};
 ghost use lib.Signed.{leZ};
 ghost use Rattle.number.specs.Number.{inRange, isMultiple, cutDown, cut, raised, lowered};
-ghost use Rattle.number.specs.Data.{digit, isDigit, fits, codeOf, spellData, decode, next, readData};
+ghost use Rattle.number.specs.Data.{digit, isDigit, fits, codeOf, spellData, decode, readNext, readData};
+
+// A number in units of its last decimal, and how many decimals it has.
+pub struct Decimal {
+    pub number: i32,
+    pub decimals: u8,
+}
 
 // Data as far as it has been read: fewer than five digits, all five, or something that is no data.
 pub enum Data {
     Partial { count: u8, value: u32 },
-    Number { number: i32, decimals: u8 },
+    Number(Decimal),
     Invalid,
 }
 
@@ -92,10 +98,10 @@ pub fn is_digit(c: u8) -> bool
 }
 
 // What five digits can say.
-pub fn fits(number: i32, decimals: u8) -> bool
-    ensures { λ r. ⌜ r ≡ fits number decimals ⌝ }
+pub fn fits(x: Decimal) -> bool
+    ensures { λ r. ⌜ r ≡ fits x ⌝ }
 {
-    (magnitude(number) <= 9999) & (decimals <= 3)
+    (magnitude(x.number) <= 9999) & (x.decimals <= 3)
 }
 
 // The character of the last digit of n.
@@ -117,15 +123,15 @@ fn code(number: i32, decimals: u8) -> u32
 }
 
 // Four digits of the number and the code.
-pub fn write_data(number: i32, decimals: u8) -> [u8; 5]
-    ensures { λ r. ⌜ r ≡ spellData number decimals ⌝ }
+pub fn write_data(x: Decimal) -> [u8; 5]
+    ensures { λ r. ⌜ r ≡ spellData x ⌝ }
 {
-    let m = magnitude(number);
+    let m = magnitude(x.number);
     let a = last_digit(m / 10 / 10 / 10);
     let b = last_digit(m / 10 / 10);
     let c = last_digit(m / 10);
     let d = last_digit(m);
-    let e = last_digit(code(number, decimals));
+    let e = last_digit(code(x.number, x.decimals));
     [a, b, c, d, e]
 }
 
@@ -136,32 +142,28 @@ fn decoded(m: u32, k: u8) -> Data
 {
     if k <= 3 {
         let number = m as i32;
-        Data::Number {
-            number,
-            decimals: k,
-        }
+        let decimals = k;
+        Data::Number(Decimal { number, decimals })
     } else if (5 <= k) & (k <= 8) {
         let number = -(m as i32);
         let decimals = k - 5;
-        Data::Number { number, decimals }
+        Data::Number(Decimal { number, decimals })
     } else {
         Data::Invalid
     }
 }
 
-// One character more: a digit of the number, or the code behind four digits.
-pub fn next(read: Data, c: u8) -> Data
-    ensures { λ r. ⌜ r ≡ next read c ⌝ }
+// Behind so many digits of this value: a digit of the number, or the code behind four digits.
+fn read_digit(count: u8, value: u32, c: u8) -> Data
+    ensures { λ r. ⌜ r ≡ readNext (Data.Partial count value) c ⌝ }
 {
-    let Data::Partial { count, value } = read else {
-        return Data::Invalid;
-    };
     if is_digit(c) & (value <= 9999) {
         let d = c - 48;
         if count < 4 {
             let longer = value * 10 + d as u32;
+            let more = count + 1;
             Data::Partial {
-                count: count + 1,
+                count: more,
                 value: longer,
             }
         } else {
@@ -172,13 +174,24 @@ pub fn next(read: Data, c: u8) -> Data
     }
 }
 
+// One character more. Nothing follows five digits, or what is no data.
+pub fn read_next(read: Data, c: u8) -> Data
+    ensures { λ r. ⌜ r ≡ readNext read c ⌝ }
+{
+    match read {
+        Data::Partial { count, value } => read_digit(count, value, c),
+        Data::Number(_) => Data::Invalid,
+        Data::Invalid => Data::Invalid,
+    }
+}
+
 // The five characters, one after the other.
 pub fn read_data(s: [u8; 5]) -> Data
     ensures { λ r. ⌜ r ≡ readData s ⌝ }
 {
-    let a = next(Data::Partial { count: 0, value: 0 }, s[0]);
-    let b = next(a, s[1]);
-    let c = next(b, s[2]);
-    let d = next(c, s[3]);
-    next(d, s[4])
+    let a = read_next(Data::Partial { count: 0, value: 0 }, s[0]);
+    let b = read_next(a, s[1]);
+    let c = read_next(b, s[2]);
+    let d = read_next(c, s[3]);
+    read_next(d, s[4])
 }

@@ -1,2 +1,6 @@
 pub mod Logic
+pub mod Lists
+pub mod Buffers
+pub mod Checks
 pub mod Calls
+pub mod Placing

@@ -1,2 +1,5 @@
+pub mod Lists
+pub mod Buffer
 pub mod Refusal
+pub mod Check
 pub mod Call

@@ -4,6 +4,8 @@ use Rattle.refusal.specs.declared.Refusal.{Refusal}
 use Rattle.refusal.specs.declared.Refusal.the-variants.{UnsoundCard, UnsoundSheet, UnsoundValues, WordAbove256, RoomTooShort, NotReply, NotMessage}
 use Rattle.refusal.specs.declared.Written.{Written}
 use Rattle.refusal.specs.declared.Written.the-variants.{Refused, Wrote}
+use Rattle.refusal.specs.declared.Verdict.{Verdict}
+use Rattle.refusal.specs.declared.Verdict.the-variants as verdict
 
 -- document 01: the numbers 1 to 7 of the table "Given exactly when"
 abbrev pub numberOf : Refusal → ℕ
@@ -24,3 +26,8 @@ pub data Outcome (A : Type 0) : Type 0 where
 abbrev pub outcomeOf : Written → Outcome ℕ
 outcomeOf (Refused r) = refused (numberOf r)
 outcomeOf (Wrote n) = gave n
+
+-- a verdict: its number, or nothing
+abbrev pub verdictOf : Verdict → Outcome (Unit {0})
+verdictOf (verdict.Refused r) = refused (numberOf r)
+verdictOf verdict.Passed = gave tt

@@ -19,6 +19,12 @@ pub enum Written {
     Wrote(usize),
 }
 
+// Whether a call can be served.
+pub enum Verdict {
+    Refused(Refusal),
+    Passed,
+}
+
 // The number that the paper gives the refusal.
 pub fn number(refusal: Refusal) -> u8
     ensures { λ r. ⌜ r ≡ numberOf refusal ⌝ }

@@ -1,30 +1,31 @@
 -- The reader gives back every answer that is spelled, and reads nothing else: the guess by position is right at what is spelled, and
 -- a guess stands only where its spelling is the very bytes. Assumes nothing.
 use mathlib.Core.Path.{_≡_, refl, sym, ap, ap₂, _∙_, subst}
-use mathlib.Core.Bool.{Bool, true, false, not, cond, _&&_, false≢true}
+use mathlib.Core.Bool.{true, false, not, _&&_, false≢true}
 use mathlib.Core.List.{List, [], _∷_, _++_, map}
-use Prim.Native.Nat.{ℕ, suc, _+_, _*_, _/_, _%_, _<_, _≤_}
-use Prim.Native.Char.{code}
+use Prim.Native.Nat.{ℕ, _+_, _*_, _/_, _%_, _<_, _≤_}
 use native.Mathlib.Nat.{div-add-mod', mod-eq-of-lt}
-use native.Mathlib.Numerals.{add-one}
 use native.Mathlib.Omega.{arith}
-use borrow.Author.Tests.{leb-true, eqb-true, eq-eqb, ne-eqb}
+use borrow.Author.Tests.{eqb-true, eq-eqb, ne-eqb}
 use lib.Dec.{leb, eqb, lit<}
-use lib.IntN.{ℤ}
-use lib.ListN.{length, getD, drop, drop-of-length-le, length-map, List·getD-map, List·getD-eq-default}
-use lib.Seq.{drop-cons, getD-drop}
-use Rattle.refusal.specs.Refusal.{Outcome, refused, gave}
-use Rattle.refusal.proofs.Logic.{ands, and-both, and-left, and-right, not-is, by-test, choice}
-use Rattle.wire.specs.Word.{withParity, travelling}
+use lib.ListN.{length, getD, drop, length-map, List·getD-map, List·getD-eq-default}
+use lib.Seq.{getD-drop}
+use Rattle.refusal.specs.Lists.{same}
+use Rattle.refusal.specs.Refusal.{refused, gave}
+use Rattle.refusal.specs.Check.{refuseIf, first, decided}
+use Rattle.refusal.specs.declared.Refusal.the-variants.{NotReply}
+use Rattle.refusal.proofs.Lists.{same-is, is-same}
+use Rattle.refusal.proofs.Checks.{refused-gave, first-holds, first-passes, first-none}
+use Rattle.refusal.proofs.Logic.{ands, and-both, and-left, and-right, not-is, is-not, by-test, choice}
+use Rattle.wire.specs.Word.{travelling}
 use Rattle.wire.proofs.Words.{written-low}
-use Rattle.number.specs.declared.Data.{Data}
-use Rattle.number.specs.declared.Data.the-variants as read
+use Rattle.number.specs.declared.Decimal.{Decimal}
 use Rattle.number.specs.Data.{digit, isDigit, digitOf, fits, spellData, readData}
-use Rattle.number.proofs.Digits.{digit-is, digit-back, data-length, data-digits, AllDigits}
+use Rattle.number.proofs.Digits.{digit-is, digit-back, data-length, data-digits}
 use Rattle.number.proofs.Reading.{read-written}
 use Rattle.message.specs.Message.{star, question, isLetter, isAddress, isIdentifier}
 use Rattle.message.specs.Spell.{spellAddress}
-use Rattle.message.proofs.Messages.{address-most, identifier-no-digit, PlainChar, Plain, plain-append, plain-letter, plain-identifier, plain-digit}
+use Rattle.message.proofs.Messages.{address-most, identifier-no-digit, plain-letter, plain-identifier}
 use Rattle.message.proofs.Spelling.{plain-address, plain-digits, Small, small-append, plain-small}
 use Rattle.reply.specs.declared.Mark.{Mark}
 use Rattle.reply.specs.declared.Mark.the-variants as mark
@@ -32,7 +33,7 @@ use Rattle.reply.specs.declared.Content.{Content}
 use Rattle.reply.specs.declared.Content.the-variants.{Empty, Number}
 use Rattle.reply.specs.declared.Answer.{Answer}
 use Rattle.reply.specs.Reply.{markOf, spellContent, spellAnswer, fitsContent, isAnswer}
-use Rattle.reply.specs.Read.{charactersOf, guessMark, contentOf, five, guessBehind, guess, same, readCall}
+use Rattle.reply.specs.Read.{charactersOf, guessMark, contentOf, five, guessBehind, guess, isReply, readCall}
 
 -- ---- an answer by its parts
 
@@ -51,33 +52,33 @@ unfolding isAnswer
 parts-answer a p = and-both (and-both (and-both (p .is-letter) (p .is-address)) (p .is-identifier)) (p .fits-content)
 
 -- a number's answer, and the status's
-pub number-content : (i : ℕ) (k : Mark) (n : ℤ) (d : ℕ) → fitsContent i k (Number n d) ≡ true → (eqb i question ≡ false) × (fits n d ≡ true)
+pub number-content : (i : ℕ) (k : Mark) (x : Decimal) → fitsContent i k (Number x) ≡ true → (eqb i question ≡ false) × (fits x ≡ true)
 unfolding fitsContent
-number-content i mark.Accepted n d e = (not-is {a = eqb i question} (search ands), search ands)
-number-content i mark.Offered n d e = (not-is {a = eqb i question} (search ands), search ands)
-number-content i mark.Refused n d e = (not-is {a = eqb i question} (search ands), search ands)
+number-content i mark.Accepted x e = (not-is {a = eqb i question} (search ands), search ands)
+number-content i mark.Offered x e = (not-is {a = eqb i question} (search ands), search ands)
+number-content i mark.Declined x e = (not-is {a = eqb i question} (search ands), search ands)
 
-pub content-number : (i : ℕ) (k : Mark) (n : ℤ) (d : ℕ) → eqb i question ≡ false → fits n d ≡ true → fitsContent i k (Number n d) ≡ true
+pub content-number : (i : ℕ) (k : Mark) (x : Decimal) → eqb i question ≡ false → fits x ≡ true → fitsContent i k (Number x) ≡ true
 unfolding fitsContent
-content-number i mark.Accepted n d e f = rw (e, f)
-content-number i mark.Offered n d e f = rw (e, f)
-content-number i mark.Refused n d e f = rw (e, f)
+content-number i mark.Accepted x e f = rw (e, f)
+content-number i mark.Offered x e f = rw (e, f)
+content-number i mark.Declined x e f = rw (e, f)
 
 pub status-content : (i : ℕ) (k : Mark) → fitsContent i k Empty ≡ true → (k ≡ mark.Accepted) × (eqb i question ≡ true)
 unfolding fitsContent
 status-content i mark.Accepted e = (refl, e)
 status-content i mark.Offered e = absurd (false≢true e)
-status-content i mark.Refused e = absurd (false≢true e)
+status-content i mark.Declined e = absurd (false≢true e)
 
 pub content-status : (i : ℕ) → eqb i question ≡ true → fitsContent i mark.Accepted Empty ≡ true
 unfolding fitsContent
 content-status i e = e
 
-pub content-test : (i : ℕ) (k : Mark) (n : ℤ) (d : ℕ) → fitsContent i k (Number n d) ≡ (not (eqb i question) && fits n d)
+pub content-test : (i : ℕ) (k : Mark) (x : Decimal) → fitsContent i k (Number x) ≡ (not (eqb i question) && fits x)
 unfolding fitsContent
-content-test i mark.Accepted n d = refl
-content-test i mark.Offered n d = refl
-content-test i mark.Refused n d = refl
+content-test i mark.Accepted x = refl
+content-test i mark.Offered x = refl
+content-test i mark.Declined x = refl
 
 -- ---- characters and back
 
@@ -97,12 +98,12 @@ characters-back (c ∷ cs) h = ap₂ (λ (x : ℕ) (xs : List ℕ). x ∷ xs) (w
 mark-small : (k : Mark) → markOf k < 128
 mark-small mark.Accepted = lit< tt
 mark-small mark.Offered = lit< tt
-mark-small mark.Refused = lit< tt
+mark-small mark.Declined = lit< tt
 
 content-small : (x : Content) → Small (spellContent x)
 unfolding spellContent
 content-small Empty = tt
-content-small (Number n d) = plain-small (spellData n d) (plain-digits (spellData n d) (data-digits n d))
+content-small (Number x) = plain-small (spellData x) (plain-digits (spellData x) (data-digits x))
 
 pub answer-small : (a : Answer) → AnswerParts a → Small (spellAnswer a)
 unfolding spellAnswer
@@ -118,7 +119,7 @@ mark-back : (k : Mark) → guessMark (markOf k) ≡ k
 unfolding guessMark
 mark-back mark.Accepted = refl
 mark-back mark.Offered = refl
-mark-back mark.Refused = refl
+mark-back mark.Declined = refl
 
 -- five characters, and the one behind them
 record Five (xs : List ℕ) (rest : List ℕ) : Type 0 where
@@ -134,10 +135,10 @@ five-back (a ∷ b ∷ c ∷ d ∷ []) rest h = absurd (omega arith)
 five-back (a ∷ b ∷ c ∷ d ∷ e ∷ []) rest h = record { back = refl; next = refl }
 five-back (a ∷ b ∷ c ∷ d ∷ e ∷ f ∷ xs) rest h = absurd (omega arith)
 
-data-back : (i : ℕ) (rest : List ℕ) (n : ℤ) (d : ℕ) → fits n d ≡ true → contentOf (readData (five (i ∷ (spellData n d ++ rest)))) ≡ Number n d
+data-back : (i : ℕ) (rest : List ℕ) (x : Decimal) → fits x ≡ true → contentOf (readData (five (i ∷ (spellData x ++ rest)))) ≡ Number x
 unfolding five contentOf
-data-back i rest n d h =
-    ap (λ (xs : List ℕ). contentOf (readData xs)) (five-back (spellData n d) rest (data-length n d) .back) ∙ ap contentOf (read-written n d h)
+data-back i rest x h =
+    ap (λ (xs : List ℕ). contentOf (readData xs)) (five-back (spellData x) rest (data-length x) .back) ∙ ap contentOf (read-written x h)
 
 one-digit : (l a i : ℕ) (xs : List ℕ) → isIdentifier i ≡ true → guess (l ∷ digit a ∷ i ∷ xs) ≡ guessBehind l a (i ∷ xs)
 unfolding guess
@@ -154,7 +155,7 @@ empty-content : (i : ℕ) (k : Mark) → fitsContent i k Empty ≡ true → (eqb
 unfolding fitsContent
 empty-content i mark.Accepted e = (e, refl)
 empty-content i mark.Offered e = absurd (false≢true e)
-empty-content i mark.Refused e = absurd (false≢true e)
+empty-content i mark.Declined e = absurd (false≢true e)
 
 -- from the identifier on
 behind : (l a i : ℕ) (k : Mark) (y : Content) → fitsContent i k y ≡ true
@@ -162,11 +163,11 @@ behind : (l a i : ℕ) (k : Mark) (y : Content) → fitsContent i k y ≡ true
 unfolding guessBehind spellContent
 behind l a i k Empty e =
     rw (empty-content i k e .0) (λ j. record { letter = l; address = a; identifier = i; mark = mark-back k j; content = Empty })
-behind l a i k (Number n d) e =
-    let f = number-content i k n d e in
-    let g = five-back (spellData n d) (markOf k ∷ star ∷ []) (data-length n d) in
-    let c : contentOf (readData (five (i ∷ (spellData n d ++ (markOf k ∷ star ∷ []))))) ≡ Number n d = data-back i (markOf k ∷ star ∷ []) n d (f .1) in
-    let m : guessMark (getD (spellData n d ++ (markOf k ∷ star ∷ [])) 5 0) ≡ k = ap guessMark (g .next) ∙ mark-back k in
+behind l a i k (Number x) e =
+    let f = number-content i k x e in
+    let g = five-back (spellData x) (markOf k ∷ star ∷ []) (data-length x) in
+    let c : contentOf (readData (five (i ∷ (spellData x ++ (markOf k ∷ star ∷ []))))) ≡ Number x = data-back i (markOf k ∷ star ∷ []) x (f .1) in
+    let m : guessMark (getD (spellData x ++ (markOf k ∷ star ∷ [])) 5 0) ≡ k = ap guessMark (g .next) ∙ mark-back k in
     rw (f .0) (λ j. record { letter = l; address = a; identifier = i; mark = m j; content = c j })
 
 -- an answer is guessed from its spelling: an address of one digit, or of two
@@ -178,45 +179,47 @@ guess-spelled a p =
     (λ t. one-digit (a .letter) (a .address) (a .identifier) (spellContent (a .content) ++ (markOf (a .mark) ∷ star ∷ [])) (p .is-identifier) ∙ behind (a .letter) (a .address) (a .identifier) (a .mark) (a .content) (p .fits-content))
     (λ t. two-digits (a .letter) (a .address) rest (p .is-address) ∙ behind (a .letter) (a .address) (a .identifier) (a .mark) (a .content) (p .fits-content))
 
--- ---- the bytes are the spelling
-
-pub same-true : (xs ys : List ℕ) → same xs ys ≡ true → xs ≡ ys
-unfolding same
-same-true [] [] e = refl
-same-true [] (y ∷ ys) e = absurd (false≢true e)
-same-true (x ∷ xs) [] e = absurd (false≢true e)
-same-true (x ∷ xs) (y ∷ ys) e =
-    ap₂ (λ (z : ℕ) (zs : List ℕ). z ∷ zs) (eqb-true x y (and-left (eqb x y) (same xs ys) e)) (same-true xs ys (and-right (eqb x y) (same xs ys) e))
-
-pub same-refl : (xs : List ℕ) → same xs xs ≡ true
-unfolding same
-same-refl [] = refl
-same-refl (x ∷ xs) = and-both (eq-eqb x x refl) (same-refl xs)
-
 -- ---- the reader
+
+is-reply-parts : (bs : List ℕ) → isReply bs ≡ true → (isAnswer (guess (charactersOf bs)) ≡ true) × (bs ≡ travelling (spellAnswer (guess (charactersOf bs))))
+unfolding isReply
+is-reply-parts bs e =
+    let g = guess (charactersOf bs) in
+    let s = same eqb (travelling (spellAnswer g)) bs in
+    (and-left (isAnswer g) s e, sym (same-is eqb (λ x y t. eqb-true x y t) (travelling (spellAnswer g)) bs (and-right (isAnswer g) s e)))
+
+-- what is one whole reply is read as the guess, and nothing else is read
+pub read-is : (bs : List ℕ) → readCall bs ≡ decided (first (refuseIf (not (isReply bs)) NotReply ∷ [])) refused (gave (guess (charactersOf bs)))
+unfolding readCall
+read-is bs = refl
+
+pub read-reply : (bs : List ℕ) → isReply bs ≡ true → readCall bs ≡ gave (guess (charactersOf bs))
+unfolding readCall
+read-reply bs e = rw (first-passes (refuseIf (not (isReply bs)) NotReply) [] (rw e) ∙ first-none)
+
+pub read-no-reply : (bs : List ℕ) → isReply bs ≡ false → readCall bs ≡ refused 6
+unfolding readCall
+read-no-reply bs e = rw (first-holds (refuseIf (not (isReply bs)) NotReply) [] (is-not e))
 
 -- every answer is read from its spelling
 pub read-spelled : (a : Answer) → isAnswer a ≡ true → readCall (travelling (spellAnswer a)) ≡ gave a
-unfolding readCall
+unfolding isReply
 read-spelled a e =
     let p = answer-parts a e in
-    let g : guess (charactersOf (travelling (spellAnswer a))) ≡ a = ap guess (characters-back (spellAnswer a) (answer-small a p)) ∙ guess-spelled a p in
-    rw (g, e, same-refl (travelling (spellAnswer a)))
+    let bs = travelling (spellAnswer a) in
+    let g : guess (charactersOf bs) ≡ a = ap guess (characters-back (spellAnswer a) (answer-small a p)) ∙ guess-spelled a p in
+    read-reply bs (rw (g, e, is-same eqb (λ x. eq-eqb x x refl) bs)) ∙ ap gave g
 
 -- and what is read is an answer, of which the bytes are the spelling
 pub read-exact : (bs : List ℕ) (a : Answer) → readCall bs ≡ gave a → (isAnswer a ≡ true) × (bs ≡ travelling (spellAnswer a))
-unfolding readCall
-read-exact bs a =
+read-exact bs a e =
+    by-test (isReply bs)
+    (λ t.
     let g = guess (charactersOf bs) in
-    choice (λ (o : Outcome Answer). o ≡ gave a → (isAnswer a ≡ true) × (bs ≡ travelling (spellAnswer a))) (isAnswer g && same (travelling (spellAnswer g)) bs)
-    (λ t e.
+    let r : gave g ≡ gave a = sym (read-reply bs t) ∙ e in
     let q : g ≡ a = cc in
-    subst (λ (x : Answer). (isAnswer x ≡ true) × (bs ≡ travelling (spellAnswer x))) q
-    (and-left (isAnswer g) (same (travelling (spellAnswer g)) bs) t, sym (same-true (travelling (spellAnswer g)) bs (and-right (isAnswer g) (same (travelling (spellAnswer g)) bs) t))))
-    (λ t e. absurd (never e))
-  where
-    never : {n : ℕ} → refused n ≡ gave a → ⊥
-    never e = let z : _≡_ {A = ℕ} 0 1 = cc in omega arith
+    subst (λ (x : Answer). (isAnswer x ≡ true) × (bs ≡ travelling (spellAnswer x))) q (is-reply-parts bs t))
+    (λ t. absurd (refused-gave (sym (read-no-reply bs t) ∙ e)))
 
 -- ---- what the code's guess comes to
 
@@ -240,21 +243,3 @@ guess-two cs e = rw e
 pub guess-one : (cs : List ℕ) → isDigit (getD cs 2 0) ≡ false → guess cs ≡ guessBehind (getD cs 0 0) (digitOf (getD cs 1 0)) (drop 2 cs)
 unfolding guess
 guess-one cs e = rw e
-
--- ---- the comparison from an index on
-
-module _ (xs ys : List ℕ) (i : ℕ) (h : i < length xs) (k : i < length ys) where
-  pub same-more : getD xs i 0 ≡ getD ys i 0 → same (drop i xs) (drop i ys) ≡ same (drop (i + 1) xs) (drop (i + 1) ys)
-  unfolding same
-  same-more e = rw (add-one, drop-cons xs i 0 h, drop-cons ys i 0 k) (rw (eq-eqb (getD xs i 0) (getD ys i 0) e))
-
-  pub same-not : (getD xs i 0 ≡ getD ys i 0 → ⊥) → same (drop i xs) (drop i ys) ≡ false
-  unfolding same
-  same-not e = rw (drop-cons xs i 0 h, drop-cons ys i 0 k) (rw (ne-eqb (getD xs i 0) (getD ys i 0) e))
-
-pub same-done : (xs ys : List ℕ) (i : ℕ) → length xs ≤ i → length ys ≤ i → same (drop i xs) (drop i ys) ≡ true
-unfolding same
-same-done xs ys i h k = rw (drop-of-length-le xs h, drop-of-length-le ys k)
-
-pub same-length : (xs ys : List ℕ) → (length xs ≡ length ys → ⊥) → same xs ys ≡ false
-same-length xs ys f = by-test (same xs ys) (λ t. absurd (f (ap length (same-true xs ys t)))) (λ t. t)

@@ -1,113 +1,134 @@
--- A reply's spelling: put part by part on a line, at most eleven bytes, and read back by the reader. Assumes nothing.
-use mathlib.Core.Path.{_≡_, refl, sym, ap, ap₂, subst, _∙_}
-use mathlib.Core.List.{List, [], _∷_, _++_}
+-- A reply's spelling: at most eleven bytes, and the parts of which it is put together. Assumes nothing.
+use mathlib.Core.Path.{_≡_, refl, sym, ap, ap₂, _∙_}
+use mathlib.Core.List.{List, [], _∷_, _++_, append-assoc}
 use Prim.Native.Nat.{ℕ, _+_, _/_, _%_, _<_, _≤_}
 use native.Mathlib.Omega.{arith}
 use borrow.Author.Tests.{le-leb, lt-leb}
 use lib.Dec.{lit≤}
-use lib.IntN.{ℤ}
-use lib.ListN.{length, getD, take, replicate, length-append}
-use Rattle.refusal.specs.Call.{laid}
-use Rattle.wire.specs.declared.Line.{Line}
-use Rattle.wire.specs.Word.{withParity, travelling}
-use Rattle.wire.specs.Line.{longest, empty, put, puts, lineOf, bytesOf, placeCall}
-use Rattle.wire.proofs.Words.{travelling-length}
-use Rattle.wire.proofs.Lines.{puts-append, puts-empty, line-part, take-counted, bytes-fit}
-use Rattle.number.specs.Data.{digit, fiveDigits, spellData}
+use lib.ListN.{length, take, length-append}
+use Rattle.refusal.specs.Buffer.{placed}
+use Rattle.refusal.specs.Refusal.{gave, outcomeOf}
+use Rattle.refusal.specs.Call.{Call, callOf, placeCall}
+use Rattle.refusal.specs.declared.Refusal.{Refusal}
+use Rattle.refusal.specs.declared.Written.{Written}
+use Rattle.refusal.specs.declared.Written.the-variants.{Wrote, Refused}
+use Rattle.refusal.proofs.Buffers.{placed-both, placed-length, placed-front, laid-front}
+use Rattle.refusal.proofs.Checks.{refused-gave}
+use Rattle.refusal.proofs.Calls.{placed-call, fits-at}
+use Rattle.wire.specs.Word.{travelling}
+use Rattle.wire.proofs.Words.{travelling-append, travelling-length}
+use Rattle.number.specs.declared.Decimal.{Decimal}
+use Rattle.number.specs.Data.{digit, spellData}
 use Rattle.number.proofs.Digits.{data-length}
 use Rattle.message.specs.Message.{star}
 use Rattle.message.specs.Spell.{spellAddress}
 use Rattle.message.proofs.Spelling.{address-length}
-use Rattle.reply.specs.declared.Mark.{Mark}
 use Rattle.reply.specs.declared.Content.{Content}
 use Rattle.reply.specs.declared.Content.the-variants.{Empty, Number}
 use Rattle.reply.specs.declared.Answer.{Answer}
-use Rattle.reply.specs.Reply.{markOf, spellContent, spellAnswer}
+use Rattle.reply.specs.Reply.{longestReply, markOf, spellContent, spellAnswer}
+use Rattle.reply.specs.Inner.{spellFront, spellEnd}
+
+-- ---- lengths
+
+pub no-data : spellContent Empty ≡ []
+unfolding spellContent
+no-data = refl
+
+pub number-data : (x : Decimal) → spellContent (Number x) ≡ spellData x
+unfolding spellContent
+number-data x = refl
 
 pub content-length : (x : Content) → length (spellContent x) ≤ 5
 unfolding spellContent
 content-length Empty = lit≤ tt
-content-length (Number n d) = omega (arith, data-length n d)
+content-length (Number x) = omega (arith, data-length x)
+
+-- with one digit of address, and with two
+pub front-one : (l a i : ℕ) → a ≤ 9 → spellFront l a i ≡ l ∷ (48 + a) ∷ i ∷ []
+unfolding spellFront spellAddress digit
+front-one l a i h = rw (le-leb a 9 h)
+
+pub front-two : (l a i : ℕ) → 9 < a → spellFront l a i ≡ l ∷ (48 + a / 10) ∷ (48 + a % 10) ∷ i ∷ []
+unfolding spellFront spellAddress digit
+front-two l a i h = rw (lt-leb a 9 h)
+
+front-length : (l a i : ℕ) → length (spellFront l a i) ≤ 4
+unfolding spellFront
+front-length l a i = omega (arith, length-append (spellAddress a) (i ∷ []), address-length a)
+
+-- the parts of an answer's spelling
+pub answer-parted : (a : Answer) → spellFront (a .letter) (a .address) (a .identifier) ++ (spellContent (a .content) ++ spellEnd (markOf (a .mark))) ≡ spellAnswer a
+unfolding spellAnswer spellFront spellEnd
+answer-parted a =
+    ap (λ (l : List ℕ). a .letter ∷ l) (append-assoc (spellAddress (a .address)) (a .identifier ∷ []) (spellContent (a .content) ++ (markOf (a .mark) ∷ star ∷ [])))
+
+pub answer-sum : (a : Answer) → length (spellAnswer a) ≡ length (spellFront (a .letter) (a .address) (a .identifier)) + length (spellContent (a .content)) + 2
+unfolding spellEnd
+answer-sum a =
+    let f = spellFront (a .letter) (a .address) (a .identifier) in
+    let c = spellContent (a .content) in
+    let e = spellEnd (markOf (a .mark)) in
+    omega (arith, ap length (answer-parted a), length-append f (c ++ e), length-append c e)
 
 -- document 01: "No reply is longer than 11 bytes."
-pub answer-length : (a : Answer) → length (spellAnswer a) ≤ 11
-unfolding spellAnswer
-answer-length a =
-    let e = spellContent (a .content) ++ (markOf (a .mark) ∷ star ∷ []) in
-    omega (arith, length-append (spellAddress (a .address)) (a .identifier ∷ e), length-append (spellContent (a .content)) (markOf (a .mark) ∷ star ∷ []), address-length (a .address), content-length (a .content))
+pub answer-length : (a : Answer) → length (spellAnswer a) ≤ longestReply
+answer-length a = omega (arith, answer-sum a, front-length (a .letter) (a .address) (a .identifier), content-length (a .content))
 
--- the line of an answer, put part by part
-pub answer-line : (a : Answer) (l₀ l₁ l₂ l₃ l₄ l₅ l₆ : Line) → l₀ ≡ empty → l₁ ≡ put l₀ (a .letter) → l₂ ≡ puts l₁ (spellAddress (a .address)) → l₃ ≡ put l₂ (a .identifier)
-    → l₄ ≡ puts l₃ (spellContent (a .content)) → l₅ ≡ put l₄ (markOf (a .mark)) → l₆ ≡ put l₅ star → l₆ ≡ lineOf (spellAnswer a)
-unfolding spellAnswer puts
-answer-line a l₀ l₁ l₂ l₃ l₄ l₅ l₆ e₀ e₁ e₂ e₃ e₄ e₅ e₆ =
-    let x = spellContent (a .content) in
-    let end = markOf (a .mark) ∷ star ∷ [] in
-    let last : puts l₃ (x ++ end) ≡ l₆ = puts-append l₃ x end ∙ ap (λ (l : Line). puts l end) (sym e₄) ∙ ap (λ (l : Line). put l star) (sym e₅) ∙ sym e₆ in
-    let behind : puts l₁ (spellAddress (a .address) ++ (a .identifier ∷ (x ++ end))) ≡ l₆
-    = puts-append l₁ (spellAddress (a .address)) (a .identifier ∷ (x ++ end)) ∙ ap (λ (l : Line). puts (put l (a .identifier)) (x ++ end)) (sym e₂) ∙ ap (λ (l : Line). puts l (x ++ end)) (sym e₃) ∙ last in
-    sym behind
-    ∙ ap (λ (l : Line). puts l (spellAddress (a .address) ++ (a .identifier ∷ (x ++ end)))) (e₁ ∙ ap (λ (l : Line). put l (a .letter)) e₀)
-    ∙ puts-empty (spellAnswer a) (answer-length a)
+-- ---- part by part into a buffer
 
--- ---- the reply of an answer with a number
+pub three-placed : (xs ys zs : List ℕ) (at : ℕ) (out : List ℕ) → at ≤ length out
+    → placed zs (at + length xs + length ys) (placed ys (at + length xs) (placed xs at out)) ≡ placed (xs ++ (ys ++ zs)) at out
+three-placed xs ys zs at out h =
+    let n : at + length xs + length ys ≡ at + length (xs ++ ys) = omega (arith, length-append xs ys) in
+    ap₂ (λ (k : ℕ) (l : List ℕ). placed zs k l) n (placed-both xs at out h ys)
+    ∙ placed-both (xs ++ ys) at out h zs
+    ∙ ap (λ (l : List ℕ). placed l at out) (append-assoc xs ys zs)
 
--- what stands behind the address, and the whole
-abbrev pub behindAddress : ℕ → List ℕ → ℕ → List ℕ
-behindAddress i digits m = i ∷ getD digits 0 0 ∷ getD digits 1 0 ∷ getD digits 2 0 ∷ getD digits 3 0 ∷ getD digits 4 0 ∷ m ∷ star ∷ []
+-- characters in place of their bytes
+pub parts-travel : (xs ys zs : List ℕ) → travelling xs ++ (travelling ys ++ travelling zs) ≡ travelling (xs ++ (ys ++ zs))
+parts-travel xs ys zs = sym (travelling-append xs (ys ++ zs) ∙ ap (λ (l : List ℕ). travelling xs ++ l) (travelling-append ys zs))
 
-abbrev pub withDigits : ℕ → ℕ → ℕ → List ℕ → ℕ → List ℕ
-withDigits l a i digits m = l ∷ (spellAddress a ++ behindAddress i digits m)
+-- an answer's parts, written one behind the other
+pub answer-placed : (a : Answer) (at : ℕ) (out o₁ o₂ o₃ : List ℕ) (p₁ p₂ : ℕ) → at ≤ length out
+    → p₁ ≡ at + length (spellFront (a .letter) (a .address) (a .identifier)) → o₁ ≡ placed (travelling (spellFront (a .letter) (a .address) (a .identifier))) at out
+    → p₂ ≡ p₁ + length (spellContent (a .content)) → o₂ ≡ placed (travelling (spellContent (a .content))) p₁ o₁
+    → o₃ ≡ placed (travelling (spellEnd (markOf (a .mark)))) p₂ o₂ → o₃ ≡ placed (travelling (spellAnswer a)) at out
+answer-placed a at out o₁ o₂ o₃ p₁ p₂ h e₁ f₁ e₂ f₂ f₃ =
+    let xs = spellFront (a .letter) (a .address) (a .identifier) in
+    let ys = spellContent (a .content) in
+    let zs = spellEnd (markOf (a .mark)) in
+    let q₁ : p₁ ≡ at + length (travelling xs) = e₁ ∙ ap (λ (n : ℕ). at + n) (sym (travelling-length xs)) in
+    let q₂ : p₂ ≡ at + length (travelling xs) + length (travelling ys) = e₂ ∙ ap₂ _+_ q₁ (sym (travelling-length ys)) in
+    f₃
+    ∙ ap₂ (λ (k : ℕ) (l : List ℕ). placed (travelling zs) k l) q₂ (f₂ ∙ ap₂ (λ (k : ℕ) (l : List ℕ). placed (travelling ys) k l) q₁ f₁)
+    ∙ three-placed (travelling xs) (travelling ys) (travelling zs) at out h
+    ∙ ap (λ (l : List ℕ). placed l at out) (parts-travel xs ys zs ∙ ap travelling (answer-parted a))
 
-pub number-spelled : (a : Answer) (n : ℤ) (d m : ℕ) (digits : List ℕ) → a .content ≡ Number n d → digits ≡ spellData n d → m ≡ markOf (a .mark)
-    → withDigits (a .letter) (a .address) (a .identifier) digits m ≡ spellAnswer a
-unfolding spellAnswer spellContent spellData fiveDigits
-number-spelled a n d m digits e f g =
-    ap₂ (withDigits (a .letter) (a .address) (a .identifier)) f g
-    ∙ sym (ap (λ (x : Content). a .letter ∷ (spellAddress (a .address) ++ (a .identifier ∷ (spellContent x ++ (markOf (a .mark) ∷ star ∷ []))))) e)
+-- ---- into an array that has room for every reply
 
--- the eight bytes of an array
-abbrev pub eight : List ℕ → List ℕ
-eight x = getD x 0 0 ∷ getD x 1 0 ∷ getD x 2 0 ∷ getD x 3 0 ∷ getD x 4 0 ∷ getD x 5 0 ∷ getD x 6 0 ∷ getD x 7 0 ∷ []
+pub record Spelt (a : Answer) (r : Written) (array : List ℕ) : Type 0 where
+  pub answers : outcomeOf r ≡ gave (length (travelling (spellAnswer a)))
+  pub long : length array ≡ longestReply
+  pub front : take (length (travelling (spellAnswer a))) array ≡ travelling (spellAnswer a)
 
--- the bytes of the reply, from those behind the address: one digit of address, and two
-module _ (l a i m : ℕ) (digits : List ℕ) (b : ℕ) (x : List ℕ) (e : b ≡ withParity l) (f : x ≡ travelling (behindAddress i digits m)) where
-  pub one-digit-bytes : (n : ℕ) → a ≤ 9 → n ≡ withParity (48 + a) → b ∷ n ∷ eight x ≡ travelling (withDigits l a i digits m)
-  unfolding travelling spellAddress digit
-  one-digit-bytes n h g =
-      ap₂ (λ (y z : ℕ). y ∷ z ∷ eight x) e g
-      ∙ ap (λ (y : List ℕ). withParity l ∷ withParity (48 + a) ∷ eight y) f
-      ∙ rw (le-leb a 9 h)
+pub spelt : (a : Answer) (zeros : List ℕ) (r : Written) (array : List ℕ) → length zeros ≡ longestReply → callOf r array ≡ placeCall (travelling (spellAnswer a)) 0 zeros → Spelt a r array
+spelt a zeros r array h e =
+    let xs = travelling (spellAnswer a) in
+    let n = travelling-length (spellAnswer a) in
+    let m = answer-length a in
+    let room : 0 + length xs ≤ length zeros = omega arith in
+    let w = e ∙ placed-call xs 0 zeros (fits-at xs 0 zeros room) in
+    let b : array ≡ placed xs 0 zeros = ap (λ (c : Call). c .buffer) w in
+    record {
+      answers = ap (λ (c : Call). c .outcome) w;
+      long = ap length b ∙ placed-length xs 0 zeros room ∙ h;
+      front = ap (take (length xs)) (b ∙ placed-front xs zeros) ∙ laid-front xs zeros;
+    }
 
-  pub two-digits-bytes : (t u : ℕ) → 9 < a → t ≡ withParity (48 + a / 10) → u ≡ withParity (48 + a % 10) → b ∷ t ∷ u ∷ eight x ≡ travelling (withDigits l a i digits m)
-  unfolding travelling spellAddress digit
-  two-digits-bytes t u h g k =
-      ap (λ (y : ℕ). y ∷ t ∷ u ∷ eight x) e
-      ∙ ap₂ (λ (y z : ℕ). withParity l ∷ y ∷ z ∷ eight x) g k
-      ∙ ap (λ (y : List ℕ). withParity l ∷ withParity (48 + a / 10) ∷ withParity (48 + a % 10) ∷ eight y) f
-      ∙ rw (lt-leb a 9 h)
+-- so many bytes were written
+pub spelt-count : (a : Answer) (r : Written) (array : List ℕ) (n : ℕ) → Spelt a r array → r ≡ Wrote n → n ≡ length (travelling (spellAnswer a))
+spelt-count a r array n s e = let g : gave n ≡ gave (length (travelling (spellAnswer a))) = sym (ap outcomeOf e) ∙ s .answers in cc
 
--- the line that an array comes to
-pub array-line : (xs cs : List ℕ) → xs ≡ travelling cs → record { bytes = laid xs (replicate longest 0); len = length xs } ≡ lineOf cs
-unfolding lineOf
-array-line xs cs e =
-    let n : length xs ≡ length cs = ap length e ∙ travelling-length cs in
-    λ j. record { bytes = laid (e j) (replicate longest 0); len = n j }
-
--- ---- the part of a line that its count gives
-
-pub counted-fits : (l : Line) (n : ℕ) → n ≡ length (bytesOf l) → n ≤ length (l .bytes)
-counted-fits l n e = subst (λ (k : ℕ). k ≤ length (l .bytes)) (sym e) (bytes-fit l)
-
-pub counted-part : (l : Line) (cs : List ℕ) (n : ℕ) → l ≡ lineOf cs → n ≡ length (bytesOf l) → take n (l .bytes) ≡ travelling cs
-unfolding bytesOf
-counted-part l cs n e f = ap (λ (k : ℕ). take k (l .bytes)) f ∙ take-counted (l .len) (l .bytes) ∙ line-part l cs e
-
--- ---- into a buffer
-
-module _ {xs ys : List ℕ} (e : xs ≡ ys) (at : ℕ) (out : List ℕ) where
-  pub placed-outcome : placeCall xs at out .outcome ≡ placeCall ys at out .outcome
-  placed-outcome = ap (λ (l : List ℕ). placeCall l at out .outcome) e
-
-  pub placed-buffer : placeCall xs at out .buffer ≡ placeCall ys at out .buffer
-  placed-buffer = ap (λ (l : List ℕ). placeCall l at out .buffer) e
+pub spelt-always : (a : Answer) (r : Written) (array : List ℕ) (f : Refusal) → Spelt a r array → r ≡ Refused f → ⊥
+spelt-always a r array f s e = refused-gave (sym (ap outcomeOf e) ∙ s .answers)

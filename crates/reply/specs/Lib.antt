@@ -1,2 +1,3 @@
 pub mod Reply
+pub mod Inner
 pub mod Read

@@ -1,12 +1,14 @@
 -- The reader: the answer whose spelling the bytes are, where there is one. It is guessed by position, and stands only where it is an
 -- answer and is spelled with these very bytes.
-use mathlib.Core.Bool.{Bool, true, false, cond, _&&_}
+use mathlib.Core.Bool.{Bool, cond, not, _&&_}
 use mathlib.Core.List.{List, [], _∷_, map}
 use Prim.Native.Nat.{ℕ, _+_, _*_, _%_}
 use Prim.Native.Char.{code}
 use lib.Dec.{eqb}
 use lib.ListN.{getD, drop}
+use Rattle.refusal.specs.Lists.{same}
 use Rattle.refusal.specs.Refusal.{Outcome, refused, gave, numberOf}
+use Rattle.refusal.specs.Check.{refuseIf, first, decided}
 use Rattle.refusal.specs.declared.Refusal.the-variants.{NotReply}
 use Rattle.wire.specs.Word.{travelling}
 use Rattle.number.specs.declared.Data.{Data}
@@ -26,12 +28,14 @@ use Rattle.reply.specs.Reply.{spellAnswer, isAnswer}
 unfoldable pub charactersOf : List ℕ → List ℕ
 charactersOf bs = map (λ (b : ℕ). b % 128) bs
 
+-- a mark by its character
 unfoldable pub guessMark : ℕ → Mark
-guessMark c = cond (eqb c (code "A")) mark.Accepted (cond (eqb c (code "I")) mark.Offered mark.Refused)
+guessMark c = cond (eqb c (code "A")) mark.Accepted (cond (eqb c (code "I")) mark.Offered mark.Declined)
 
+-- data as it was read
 unfoldable pub contentOf : Data → Content
 contentOf (read.Partial k n) = Empty
-contentOf (read.Number n d) = Number n d
+contentOf (read.Number x) = Number x
 contentOf read.Invalid = Empty
 
 -- the five characters behind the identifier, with which cs begins
@@ -52,17 +56,13 @@ guess cs =
     (guessBehind (getD cs 0 0) ((digitOf (getD cs 1 0) * 10 + digitOf (getD cs 2 0)) % 100) (drop 3 cs))
     (guessBehind (getD cs 0 0) (digitOf (getD cs 1 0)) (drop 2 cs))
 
-unfoldable pub same : List ℕ → List ℕ → Bool
-same [] [] = true
-same [] (y ∷ ys) = false
-same (x ∷ xs) [] = false
-same (x ∷ xs) (y ∷ ys) = eqb x y && same xs ys
+-- one whole reply, spelled with these very bytes
+unfoldable pub isReply : List ℕ → Bool
+isReply bs = isAnswer (guess (charactersOf bs)) && same eqb (travelling (spellAnswer (guess (charactersOf bs)))) bs
 
 -- document 01, number 6: bytes that "are not one whole reply spelled exactly as some sound card .. would spell it, parity included"
 unfoldable pub readCall : List ℕ → Outcome Answer
-readCall bs =
-    cond (isAnswer (guess (charactersOf bs)) && same (travelling (spellAnswer (guess (charactersOf bs)))) bs)
-    (gave (guess (charactersOf bs))) (refused (numberOf NotReply))
+readCall bs = decided (first (refuseIf (not (isReply bs)) NotReply ∷ [])) refused (gave (guess (charactersOf bs)))
 
 -- the reader's answer: number 6, or the answer that the card gave
 abbrev pub outcomeOf : Reading → Outcome Answer

@@ -1,32 +1,35 @@
 // A reply: the answer it carries, its spelling, and the reader.
 ghost use mathlib.Core.Path.{_≡_};
-ghost use Prim.Native.Nat.{_≤_};
+ghost use Prim.Native.Nat.{_+_, _≤_};
+ghost use lib.Dec.{eqb};
 ghost use lib.ListN.{length, getD, drop};
-ghost use mathlib.Core.List.{[], _∷_, _++_};
-ghost use Rattle.refusal.specs.Refusal.{outcomeOf as writtenOf};
+ghost use Rattle.refusal.specs.Lists.{same};
+ghost use Rattle.refusal.specs.Buffer.{placed};
+ghost use Rattle.refusal.specs.Call.{callOf, placeCall};
 ghost use Rattle.wire.specs.Word.{travelling};
-ghost use Rattle.wire.specs.Line.{lineOf, bytesOf, placeCall};
-ghost use Rattle.message.specs.Message.{star};
-ghost use Rattle.message.specs.Spell.{spellAddress};
-ghost use Rattle.reply.specs.Reply.{markOf, spellAnswer, fitsContent, isAnswer};
 ghost use Rattle.number.specs.Data.{digitOf, spellData};
-ghost use Rattle.reply.specs.Read.{charactersOf, guessMark, contentOf, guessBehind, guess, same, readCall, outcomeOf};
+ghost use Rattle.reply.specs.Reply.{markOf, spellContent, spellAnswer, fitsContent, isAnswer};
+ghost use Rattle.reply.specs.Inner.{spellFront, spellEnd};
+ghost use Rattle.reply.specs.Read.{charactersOf, guessMark, contentOf, guessBehind, guess, readCall, outcomeOf};
 use number::Data;
+use number::Decimal;
 use refusal::Refusal;
 use refusal::Written;
-use wire::Line;
+
+// The longest reply has this many bytes, `*` included.
+pub const LONGEST_REPLY: usize = 11;
 
 // `A`, `I` and `N`.
 pub enum Mark {
     Accepted,
     Offered,
-    Refused,
+    Declined,
 }
 
 // The number with its decimals, if any.
 pub enum Content {
     Empty,
-    Number { number: i32, decimals: u8 },
+    Number(Decimal),
 }
 
 pub struct Answer {
@@ -50,141 +53,118 @@ pub fn mark_of(mark: Mark) -> u8
     match mark {
         Mark::Accepted => b'A',
         Mark::Offered => b'I',
-        Mark::Refused => b'N',
+        Mark::Declined => b'N',
     }
 }
 
-// What stands behind the address of a reply with a number, as it travels.
-fn behind_address(identifier: u8, digits: [u8; 5], mark: u8) -> [u8; 8]
-    ensures { λ r. ⌜ r ≡ travelling (identifier ∷ getD digits 0 0 ∷ getD digits 1 0 ∷ getD digits 2 0 ∷ getD digits 3 0 ∷ getD digits 4 0 ∷ mark ∷ star ∷ []) ⌝ }
+// The letter, the address and the identifier into a buffer from a place on, as they travel, and the place behind them.
+fn place_front(letter: u8, address: u8, identifier: u8, out: &mut [u8], at: usize) -> usize
+    requires { ⌜ at + length (spellFront letter address identifier) ≤ length (now out) ⌝ }
+    ensures { λ r. ⌜ (r ≡ at + length (spellFront letter address identifier)) × (now (out .exit) ≡ placed (travelling (spellFront letter address identifier)) at (now (out .entry))) ⌝ }
 {
+    let l = wire::with_parity(letter);
     let i = wire::with_parity(identifier);
+    if address <= 9 {
+        let d = wire::with_parity(48 + address);
+        let bytes = [l, d, i];
+        wire::place(&bytes, out, at);
+        return at + 3;
+    }
+    let t = wire::with_parity(48 + address / 10);
+    let u = wire::with_parity(48 + address % 10);
+    let bytes = [l, t, u, i];
+    wire::place(&bytes, out, at);
+    at + 4
+}
+
+// Five digits in the same way.
+fn place_number(x: Decimal, out: &mut [u8], at: usize) -> usize
+    requires { ⌜ at + 5 ≤ length (now out) ⌝ }
+    ensures { λ r. ⌜ (r ≡ at + 5) × (now (out .exit) ≡ placed (travelling (spellData x)) at (now (out .entry))) ⌝ }
+{
+    let digits = number::write_data(x);
     let a = wire::with_parity(digits[0]);
     let b = wire::with_parity(digits[1]);
     let c = wire::with_parity(digits[2]);
     let d = wire::with_parity(digits[3]);
-    let k = wire::with_parity(digits[4]);
+    let e = wire::with_parity(digits[4]);
+    let bytes = [a, b, c, d, e];
+    wire::place(&bytes, out, at);
+    at + 5
+}
+
+// The data, if any, in the same way.
+fn place_content(content: Content, out: &mut [u8], at: usize) -> usize
+    requires { ⌜ at + length (spellContent content) ≤ length (now out) ⌝ }
+    ensures { λ r. ⌜ (r ≡ at + length (spellContent content)) × (now (out .exit) ≡ placed (travelling (spellContent content)) at (now (out .entry))) ⌝ }
+{
+    match content {
+        Content::Empty => at,
+        Content::Number(x) => place_number(x, out, at),
+    }
+}
+
+// The mark and the `*` in the same way.
+fn place_end(mark: u8, out: &mut [u8], at: usize)
+    requires { ⌜ at + 2 ≤ length (now out) ⌝ }
+    ensures { λ _. ⌜ now (out .exit) ≡ placed (travelling (spellEnd mark)) at (now (out .entry)) ⌝ }
+{
     let m = wire::with_parity(mark);
     let e = wire::with_parity(b'*');
-    [i, a, b, c, d, k, m, e]
+    let bytes = [m, e];
+    wire::place(&bytes, out, at);
 }
 
-// The reply of an answer with a number, from its five digits.
-fn line_of_data(letter: u8, address: u8, identifier: u8, digits: [u8; 5], mark: u8) -> Line
-    ensures { λ r. ⌜ r ≡ lineOf (letter ∷ (spellAddress address ++ (identifier ∷ getD digits 0 0 ∷ getD digits 1 0 ∷ getD digits 2 0 ∷ getD digits 3 0 ∷ getD digits 4 0 ∷ mark ∷ star ∷ []))) ⌝ }
+fn content_len(content: Content) -> usize
+    ensures { λ r. ⌜ r ≡ length (spellContent content) ⌝ }
 {
-    let l = wire::with_parity(letter);
-    let x = behind_address(identifier, digits, mark);
-    if address <= 9 {
-        let n = wire::with_parity(48 + address);
-        let bytes = [l, n, x[0], x[1], x[2], x[3], x[4], x[5], x[6], x[7], 0];
-        return Line { bytes, len: 10 };
+    match content {
+        Content::Empty => 0,
+        Content::Number(_) => 5,
     }
-    let t = wire::with_parity(48 + address / 10);
-    let u = wire::with_parity(48 + address % 10);
-    let bytes = [l, t, u, x[0], x[1], x[2], x[3], x[4], x[5], x[6], x[7]];
-    Line { bytes, len: 11 }
 }
 
-// The reply as it travels, `*` included.
-pub fn spell(answer: Answer) -> Line
-    ensures { λ r. ⌜ r ≡ lineOf (spellAnswer answer) ⌝ }
+// How many bytes the reply has, `*` included.
+fn spelled_len(answer: Answer) -> usize
+    ensures { λ r. ⌜ r ≡ length (spellAnswer answer) ⌝ }
 {
-    let letter = answer.letter;
-    let address = answer.address;
-    let identifier = answer.identifier;
-    let given = answer.mark;
-    let mark = mark_of(given);
     let content = answer.content;
-    let Content::Number { number, decimals } = content else {
-        let front = message::put_address(Line::new().put(letter), address);
-        return front.put(identifier).put(mark).put(b'*');
-    };
-    line_of_data(
-        letter,
-        address,
-        identifier,
-        number::write_data(number, decimals),
-        mark,
-    )
-}
-
-// The bytes into a buffer from a place on, and how many they are.
-fn place_all(bytes: &[u8], out: &mut [u8], at: usize) -> Written
-    ensures answers { λ r. ⌜ writtenOf r ≡ placeCall (now (bytes .entry)) at (now (out .entry)) .outcome ⌝ }
-    ensures leaves { λ r. ⌜ now (out .exit) ≡ placeCall (now (bytes .entry)) at (now (out .entry)) .buffer ⌝ }
-{
-    if wire::place(bytes, out, at) {
-        Written::Wrote(bytes.len())
+    let data = content_len(content);
+    if answer.address <= 9 {
+        5 + data
     } else {
-        Written::Refused(Refusal::RoomTooShort)
+        6 + data
     }
-}
-
-// The reply of an answer with a number into a buffer, from its five digits.
-fn place_data(
-    letter: u8,
-    address: u8,
-    identifier: u8,
-    digits: [u8; 5],
-    mark: u8,
-    out: &mut [u8],
-    at: usize,
-) -> Written
-    ensures answers { λ r. ⌜ writtenOf r ≡ placeCall (travelling (letter ∷ (spellAddress address ++ (identifier ∷ getD digits 0 0 ∷ getD digits 1 0 ∷ getD digits 2 0 ∷ getD digits 3 0 ∷ getD digits 4 0 ∷ mark ∷ star ∷ [])))) at (now (out .entry)) .outcome ⌝ }
-    ensures leaves { λ r. ⌜ now (out .exit) ≡ placeCall (travelling (letter ∷ (spellAddress address ++ (identifier ∷ getD digits 0 0 ∷ getD digits 1 0 ∷ getD digits 2 0 ∷ getD digits 3 0 ∷ getD digits 4 0 ∷ mark ∷ star ∷ [])))) at (now (out .entry)) .buffer ⌝ }
-{
-    let l = wire::with_parity(letter);
-    let x = behind_address(identifier, digits, mark);
-    if address <= 9 {
-        let n = wire::with_parity(48 + address);
-        let bytes = [l, n, x[0], x[1], x[2], x[3], x[4], x[5], x[6], x[7]];
-        return place_all(&bytes, out, at);
-    }
-    let t = wire::with_parity(48 + address / 10);
-    let u = wire::with_parity(48 + address % 10);
-    let bytes = [l, t, u, x[0], x[1], x[2], x[3], x[4], x[5], x[6], x[7]];
-    place_all(&bytes, out, at)
 }
 
 // The reply into a buffer from a place on, as it travels.
 pub fn place(answer: Answer, out: &mut [u8], at: usize) -> Written
-    ensures answers { λ r. ⌜ writtenOf r ≡ placeCall (travelling (spellAnswer answer)) at (now (out .entry)) .outcome ⌝ }
-    ensures leaves { λ r. ⌜ now (out .exit) ≡ placeCall (travelling (spellAnswer answer)) at (now (out .entry)) .buffer ⌝ }
+    ensures { λ r. ⌜ callOf r (now (out .exit)) ≡ placeCall (travelling (spellAnswer answer)) at (now (out .entry)) ⌝ }
 {
-    let letter = answer.letter;
-    let address = answer.address;
-    let identifier = answer.identifier;
+    let n = spelled_len(answer);
+    if out.len() < at {
+        return Written::Refused(Refusal::RoomTooShort);
+    }
+    if out.len() - at < n {
+        return Written::Refused(Refusal::RoomTooShort);
+    }
     let given = answer.mark;
-    let mark = mark_of(given);
     let content = answer.content;
-    let Content::Number { number, decimals } = content else {
-        let line = spell(answer);
-        let bytes = line.bytes;
-        let n = line.count();
-        return place_all(&bytes[..n], out, at);
-    };
-    place_data(
-        letter,
-        address,
-        identifier,
-        number::write_data(number, decimals),
-        mark,
-        out,
-        at,
-    )
+    let data = place_front(answer.letter, answer.address, answer.identifier, out, at);
+    let end = place_content(content, out, data);
+    place_end(mark_of(given), out, end);
+    Written::Wrote(n)
 }
 
 fn fits_content(identifier: u8, mark: Mark, content: Content) -> bool
     ensures { λ r. ⌜ r ≡ fitsContent identifier mark content ⌝ }
 {
     match content {
-        Content::Number { number, decimals } => (identifier != b'?')
-            & number::fits(number, decimals),
+        Content::Number(x) => (identifier != b'?') & number::fits(x),
         Content::Empty => match mark {
             Mark::Accepted => identifier == b'?',
             Mark::Offered => false,
-            Mark::Refused => false,
+            Mark::Declined => false,
         },
     }
 }
@@ -224,7 +204,7 @@ fn guess_mark(c: u8) -> Mark
     if c == b'I' {
         return Mark::Offered;
     }
-    Mark::Refused
+    Mark::Declined
 }
 
 fn content_of(read: Data) -> Content
@@ -232,7 +212,7 @@ fn content_of(read: Data) -> Content
 {
     match read {
         Data::Partial { count: _, value: _ } => Content::Empty,
-        Data::Number { number, decimals } => Content::Number { number, decimals },
+        Data::Number(x) => Content::Number(x),
         Data::Invalid => Content::Empty,
     }
 }
@@ -286,7 +266,7 @@ fn guess(bytes: &[u8]) -> Answer
 }
 
 fn equal(a: &[u8], b: &[u8]) -> bool
-    ensures { λ r. ⌜ r ≡ same (now (a .entry)) (now (b .entry)) ⌝ }
+    ensures { λ r. ⌜ r ≡ same eqb (now (a .entry)) (now (b .entry)) ⌝ }
 {
     if a.len() != b.len() {
         return false;
@@ -301,15 +281,23 @@ fn equal(a: &[u8], b: &[u8]) -> bool
     true
 }
 
+// Whether the bytes are the reply of an answer: it is spelled and compared.
+fn is_spelling(answer: Answer, bytes: &[u8]) -> bool
+    ensures { λ r. ⌜ r ≡ same eqb (travelling (spellAnswer answer)) (now (bytes .entry)) ⌝ }
+{
+    let mut spelled = [0u8; LONGEST_REPLY];
+    match place(answer, &mut spelled, 0) {
+        Written::Wrote(n) => equal(&spelled[..n], bytes),
+        Written::Refused(_) => false,
+    }
+}
+
 // The answer that the card gave.
 pub fn read(bytes: &[u8]) -> Reading
     ensures { λ r. ⌜ outcomeOf r ≡ readCall (now (bytes .entry)) ⌝ }
 {
     let answer = guess(bytes);
-    let line = spell(answer);
-    let spelled = line.bytes;
-    let len = line.len;
-    if is_answer(answer) & equal(&spelled[..len], bytes) {
+    if is_answer(answer) & is_spelling(answer, bytes) {
         Reading::Gave(answer)
     } else {
         Reading::Refused(Refusal::NotReply)

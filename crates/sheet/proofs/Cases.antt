@@ -1,19 +1,17 @@
 -- Cases that try the definitions: document 01's bench rows and values, and sheets and values that break one rule each.
 -- Each is computed. Assumes nothing.
-use mathlib.Core.Path.{_≡_, refl}
-use mathlib.Core.Bool.{Bool, true, not, _&&_}
+use mathlib.Core.Path.{_≡_, refl, sym, subst}
+use mathlib.Core.Bool.{Bool, true, cond, not, _&&_}
 use mathlib.Core.List.{List, [], _∷_, _++_}
 use Prim.Native.Nat.{ℕ, zero, suc, _+_}
 use Prim.Native.Char.{code}
 use lib.Dec.{eqb}
 use lib.IntN.{ℤ, pos, negsuc, natAbs}
 use lib.ListN.{length, set, replicate}
-use Rattle.number.specs.Number.{inRange, isMultiple}
-use Rattle.number.specs.Data.{isDigit}
-use Rattle.message.specs.Message.{isIdentifier}
-use Rattle.sheet.specs.Sheet.{at, rows, soundIdentifier, soundNumbers, soundRow, soundRows, soundSheet}
-use Rattle.sheet.specs.Lookup.{isCode, isFor, rowAmong, placeAmong, rowIn, placeIn, hasRow, rowOf, shown}
-use Rattle.sheet.specs.Values.{numbersOf, fitsRow, fitsPlace, soundFrom, soundValues}
+use Rattle.sheet.specs.Sheet.{at, rows, soundSheet}
+use Rattle.sheet.specs.Lookup.{codeIs, isFor, rowAmong, placeAmong, rowIn, placeIn, hasRow, rowOf, shown}
+use Rattle.sheet.specs.Values.{soundValues}
+use Rattle.sheet.proofs.Tables.{sheetTest, sheet-test, valuesTest, values-test}
 
 -- document 01, "Bench cases"
 benchRows : List ℤ
@@ -35,17 +33,6 @@ many (suc n) i = pos i ∷ pos 2 ∷ pos 0 ∷ pos 1 ∷ pos 0 ∷ pos 1 ∷ man
 
 row : (identifier access decimals step : ℕ) (least greatest : ℤ) → List ℤ
 row i a d s l g = pos i ∷ pos a ∷ pos d ∷ pos s ∷ l ∷ g ∷ []
-
-sound : Bool
-sound =
-    soundSheet []
-    && soundSheet benchRows
-    && soundSheet (row (code "!") 2 0 1 (pos 0) (pos 1) ++ many 63 (code "@"))
-    && soundSheet (row (code "!") 1 0 1 (negsuc 9998) (pos 9999))
-    && soundSheet (row (code "~") 3 3 9999 (negsuc 9998) (pos 9999))
-    && soundSheet (row (code "A") 2 3 7 (negsuc 6) (pos 0))
-    && soundValues [] benchRows benchValues
-    && soundValues benchRows [] benchValues
 
 -- one rule broken in each
 unsound : List (List ℤ)
@@ -72,29 +59,54 @@ unsound =
     (row (code "B") 2 0 1 (pos 0) (pos 1) ++ row (code "A") 2 0 1 (pos 0) (pos 1)) ∷
     []
 
-none : List (List ℤ) → Bool
-none [] = true
-none (s ∷ ss) = not (soundSheet s) && none ss
+-- the cases, by a test of sheets, one of values, and a lookup
+module _ (soundly : List ℤ → Bool) (allowed : List ℤ → List ℤ → List ℤ → Bool) (look : List ℤ → List ℤ → ℕ → List ℤ) where
+  sound : Bool
+  sound =
+      soundly []
+      && soundly benchRows
+      && soundly (row (code "!") 2 0 1 (pos 0) (pos 1) ++ many 63 (code "@"))
+      && soundly (row (code "!") 1 0 1 (negsuc 9998) (pos 9999))
+      && soundly (row (code "~") 3 3 9999 (negsuc 9998) (pos 9999))
+      && soundly (row (code "A") 2 3 7 (negsuc 6) (pos 0))
+      && allowed [] benchRows benchValues
+      && allowed benchRows [] benchValues
 
-badValues : Bool
-badValues =
-    not (soundValues [] benchRows (replicate 127 (pos 0)))
-    && not (soundValues [] benchRows (benchValues ++ (pos 0 ∷ [])))
-    && not (soundValues [] benchRows (set benchValues (code "m") (pos 21)))
-    && not (soundValues [] benchRows (set benchValues (code "m") (pos 1005)))
-    && not (soundValues [] benchRows (set benchValues (code "J") (negsuc 104)))
-    && soundValues (row (code "m") 2 0 1 (pos 0) (pos 21)) benchRows (set benchValues (code "m") (pos 21))
+  none : List (List ℤ) → Bool
+  none [] = true
+  none (s ∷ ss) = not (soundly s) && none ss
 
--- the bench's row wins, and an unsound sheet shows nothing
-lookups : Bool
-lookups =
-    eqb (natAbs (at (shown (row (code "m") 2 0 1 (pos 0) (pos 21)) benchRows (code "m")) 5)) 21
-    && eqb (natAbs (at (shown benchRows [] (code "m")) 5)) 1000
-    && eqb (natAbs (at (shown [] benchRows (code "Z")) 5)) 18
-    && eqb (length (shown benchRows benchRows (code "Y"))) 0
-    && eqb (length (shown benchRows (pos 0 ∷ []) (code "m"))) 0
-    && eqb (placeIn benchRows (code "Z")) 12
+  badValues : Bool
+  badValues =
+      not (allowed [] benchRows (replicate 127 (pos 0)))
+      && not (allowed [] benchRows (benchValues ++ (pos 0 ∷ [])))
+      && not (allowed [] benchRows (set benchValues (code "m") (pos 21)))
+      && not (allowed [] benchRows (set benchValues (code "m") (pos 1005)))
+      && not (allowed [] benchRows (set benchValues (code "J") (negsuc 104)))
+      && allowed (row (code "m") 2 0 1 (pos 0) (pos 21)) benchRows (set benchValues (code "m") (pos 21))
 
-computed : (sound && none unsound && badValues && lookups) ≡ true
-unfolding sound unsound none badValues lookups benchRows benchValues many row inRange isMultiple isDigit isIdentifier rows soundIdentifier soundNumbers soundRow soundRows soundSheet isCode isFor rowAmong placeAmong rowIn placeIn hasRow rowOf shown numbersOf fitsRow fitsPlace soundFrom soundValues
-computed = refl
+  -- the bench's row wins, and an unsound sheet shows nothing
+  lookups : Bool
+  lookups =
+      eqb (natAbs (at (look (row (code "m") 2 0 1 (pos 0) (pos 21)) benchRows (code "m")) 5)) 21
+      && eqb (natAbs (at (look benchRows [] (code "m")) 5)) 1000
+      && eqb (natAbs (at (look [] benchRows (code "Z")) 5)) 18
+      && eqb (length (look benchRows benchRows (code "Y"))) 0
+      && eqb (length (look benchRows (pos 0 ∷ []) (code "m"))) 0
+      && eqb (placeIn benchRows (code "Z")) 12
+
+  cases : Bool
+  cases = sound && none unsound && badValues && lookups
+
+looked : (List ℤ → Bool) → List ℤ → List ℤ → ℕ → List ℤ
+looked soundly bench maker i = cond (soundly bench && soundly maker) (rowOf bench maker i) []
+
+by-tests : cases sheetTest valuesTest (looked sheetTest) ≡ true
+unfolding cases sound unsound none badValues lookups looked benchRows benchValues many row rows codeIs isFor rowAmong placeAmong rowIn placeIn hasRow rowOf
+by-tests = refl
+
+computed : cases soundSheet soundValues shown ≡ true
+unfolding shown looked
+computed =
+    subst (λ (f : List ℤ → Bool). cases f soundValues (looked f) ≡ true) (λ i s. sym (sheet-test s) i)
+    (subst (λ (g : List ℤ → List ℤ → List ℤ → Bool). cases sheetTest g (looked sheetTest) ≡ true) (λ i b m vs. sym (values-test b m vs) i) by-tests)

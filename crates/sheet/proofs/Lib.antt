@@ -1,7 +1,9 @@
 pub mod Rows
 pub mod Sheets
 pub mod Values
+pub mod Tables
 pub mod OneRow
-pub mod Places
 pub mod Marks
+pub mod Places
+pub mod Least
 pub mod Cases

@@ -1,23 +1,24 @@
 -- The index: at each code the place where its row starts, and that the part there is the row. The loop goes back over a sheet row by
 -- row. Assumes nothing.
 use mathlib.Core.Path.{_≡_, refl, sym, ap, _∙_}
-use mathlib.Core.Bool.{Bool, true, false, cond, _&&_, false≢true}
+use mathlib.Core.Bool.{true, false, cond, false≢true}
 use mathlib.Core.List.{List, [], _∷_}
 use Prim.Native.Nat.{ℕ, zero, suc, _+_, _-_, _%_, _≤_, _<_}
 use native.Mathlib.Omega.{arith}
 use borrow.Author.Tests.{lt-ltb, le-ltb, ltb-true, ltb-false, eqb-true, eqb-false, eq-eqb}
 use lib.Dec.{ltb, eqb}
 use lib.IntN.{ℤ, pos, negsuc}
-use lib.ListN.{length, getD, set, take, drop, replicate, length-drop, length-set, length-replicate, getD-replicate, drop-of-length-le, List·getD-eq-default}
+use lib.ListN.{length, getD, take, drop, replicate, length-drop, length-set, length-replicate, getD-replicate, drop-of-length-le, List·getD-eq-default}
 use lib.Seq.{ext-getD, getD-set-same, getD-set-other}
 use Rattle.refusal.proofs.Logic.{ands, by-test}
 use Rattle.number.specs.Number.{inRange}
 use Rattle.sheet.specs.declared.Entry.{Entry}
 use Rattle.sheet.specs.declared.Entry.the-variants.{Found, Missing}
 use Rattle.sheet.specs.Sheet.{at, soundRow, soundSheet}
-use Rattle.sheet.specs.Lookup.{isCode, placeIn, hasRow, rowIn, rowOf, markedFrom, marked, markedRow, indexOf, partAt}
-use Rattle.sheet.specs.Values.{numbersOf, wholeRow, entryOf, entryIn, entryBy, entryAt}
-use Rattle.sheet.proofs.Rows.{place-here, place-later, place-none, Stands, stands}
+use Rattle.sheet.specs.Lookup.{codeIs, placeIn, hasRow, rowIn, rowOf, placeOf, placesFrom, indexOf, partAt}
+use Rattle.sheet.specs.Inner.{markedFrom, marked, markedRow}
+use Rattle.sheet.specs.Values.{wholeRow, entryOf, entryIn, entryBy, entryAt}
+use Rattle.sheet.proofs.Rows.{place-here, place-later, place-none, stands}
 use Rattle.sheet.proofs.Sheets.{row-parts, bench-wins, maker-else, row-of-sound}
 use Rattle.sheet.proofs.Values.{entry-below}
 
@@ -43,13 +44,13 @@ getD-marked s base i (x ∷ xs) (suc j) h =
 -- ---- one row more, from the last to the first
 
 -- what a row does to the place of a code
-mark-same : (c : ℤ) (p : ℕ) (xs : List ℕ) (j : ℕ) → isCode c j ≡ true → j < length xs → getD (markedRow c p xs) j 0 ≡ p
-unfolding isCode markedRow
+pub mark-same : (c : ℤ) (p : ℕ) (xs : List ℕ) (j : ℕ) → codeIs c j ≡ true → j < length xs → getD (markedRow c p xs) j 0 ≡ p
+unfolding codeIs markedRow
 mark-same (pos n) p xs j e h = let q : n ≡ j = eqb-true n j e in rw q (getD-set-same xs j p 0 h)
 mark-same (negsuc n) p xs j e h = absurd (false≢true e)
 
-mark-other : (c : ℤ) (p : ℕ) (xs : List ℕ) (j : ℕ) → isCode c j ≡ false → getD (markedRow c p xs) j 0 ≡ getD xs j 0
-unfolding isCode markedRow
+pub mark-other : (c : ℤ) (p : ℕ) (xs : List ℕ) (j : ℕ) → codeIs c j ≡ false → getD (markedRow c p xs) j 0 ≡ getD xs j 0
+unfolding codeIs markedRow
 mark-other (pos n) p xs j e = getD-set-other xs n j p 0 (λ (q : j ≡ n). eqb-false n j e (sym q))
 mark-other (negsuc n) p xs j e = refl
 
@@ -84,7 +85,7 @@ module _ (s : List ℤ) (base : ℕ) (xs places : List ℕ) (k : ℕ) (h : 6 ≤
   room : (k - 6) + 6 ≤ length s
   room = let a = m .k-in in omega arith
 
-  place-back : (j d : ℕ) → isCode (at s (k - 6)) j ≡ false → placeFrom s base (k - 6) d j ≡ placeFrom s base k d j
+  place-back : (j d : ℕ) → codeIs (at s (k - 6)) j ≡ false → placeFrom s base (k - 6) d j ≡ placeFrom s base k d j
   unfolding hasRow
   place-back j d e =
       let back : (k - 6) + 6 ≡ k = omega arith in
@@ -96,7 +97,7 @@ module _ (s : List ℤ) (base : ℕ) (xs places : List ℕ) (k : ℕ) (h : 6 ≤
       (λ t. let u = ltb-false (placeIn (drop k s) j) (length (drop k s)) t in
       rw (t, le-ltb (placeIn (drop (k - 6) s) j) (length (drop (k - 6) s)) (omega arith)) refl)
 
-  place-first : (j d : ℕ) → isCode (at s (k - 6)) j ≡ true → base + (k - 6) ≡ placeFrom s base (k - 6) d j
+  place-first : (j d : ℕ) → codeIs (at s (k - 6)) j ≡ true → base + (k - 6) ≡ placeFrom s base (k - 6) d j
   unfolding hasRow
   place-first j d e =
       let p : placeIn (drop (k - 6) s) j ≡ 0 = place-here s (k - 6) j room e in
@@ -111,7 +112,7 @@ module _ (s : List ℤ) (base : ℕ) (xs places : List ℕ) (k : ℕ) (h : 6 ≤
         k-in = omega arith;
         whole = omega arith;
         long = length-mark (at s (k - 6)) (base + (k - 6)) places ∙ m .long;
-        each = λ j l. by-test (isCode (at s (k - 6)) j)
+        each = λ j l. by-test (codeIs (at s (k - 6)) j)
             (λ t. mark-same (at s (k - 6)) (base + (k - 6)) places j t (omega (arith, m .long)) ∙ place-first j (getD xs j 0) t)
             (λ t. mark-other (at s (k - 6)) (base + (k - 6)) places j t ∙ m .each j l ∙ sym (place-back j (getD xs j 0) t));
       }
@@ -133,10 +134,27 @@ marked-all s base xs places k h m =
 
 -- ---- the two sheets
 
-pub index-long : (bench maker : List ℤ) → length (indexOf bench maker) ≡ 128
-unfolding indexOf marked
-index-long bench maker =
-    length-marked bench 0 0 (marked maker (length bench) (replicate 128 (length bench + length maker))) ∙ length-marked maker (length bench) 0 (replicate 128 (length bench + length maker))
+module _ (bench maker : List ℤ) where
+  length-places : (i n : ℕ) → length (placesFrom bench maker i n) ≡ n
+  unfolding placesFrom
+  length-places i zero = refl
+  length-places i (suc n) = ap suc (length-places (suc i) n)
+
+  getD-places : (i n j : ℕ) → j < n → getD (placesFrom bench maker i n) j 0 ≡ placeOf bench maker (i + j)
+  unfolding placesFrom
+  getD-places i zero j h = absurd (omega arith)
+  getD-places i (suc n) zero h = let e : i + 0 ≡ i = omega arith in rw e refl
+  getD-places i (suc n) (suc j) h =
+      let e : suc i + j ≡ i + suc j = omega arith in
+      getD-places (suc i) n j (omega arith) ∙ rw e refl
+
+  pub index-long : length (indexOf bench maker) ≡ 128
+  unfolding indexOf
+  index-long = length-places 0 128
+
+  index-place : (i : ℕ) → i < 128 → getD (indexOf bench maker) i 0 ≡ placeOf bench maker i
+  unfolding indexOf
+  index-place i h = let e : 0 + i ≡ i = omega arith in getD-places 0 128 i h ∙ ap (placeOf bench maker) e
 
 pub sound-whole : (r : List ℤ) → soundRow r ≡ true → wholeRow r ≡ true
 unfolding wholeRow
@@ -170,14 +188,22 @@ module _ (bench maker : List ℤ) (i : ℕ) where
       let e : 0 + i ≡ i = omega arith in
       getD-marked s base 0 xs i h ∙ ap (λ (q : ℕ). cond (hasRow s q) (base + placeIn s q) (getD xs i 0)) e
 
-  place-in : (xs : List ℕ) → length xs ≡ 128 → getD xs i 0 ≡ length bench + length maker → i < 128
-      → getD (marked bench 0 (marked maker (length bench) xs)) i 0 ≡ cond (hasRow bench i) (placeIn bench i) (cond (hasRow maker i) (length bench + placeIn maker i) (length bench + length maker))
-  unfolding marked
+  -- a sheet without the row ends at its place
+  in-one : (s : List ℤ) (base : ℕ) → cond (hasRow s i) (base + placeIn s i) (base + length s) ≡ base + placeIn s i
+  unfolding hasRow
+  in-one s base =
+      by-test (ltb (placeIn s i) (length s))
+      (λ t. rw t refl)
+      (λ t. rw t (omega (arith, ltb-false (placeIn s i) (length s) t, stands s i .within)))
+
+  place-in : (xs : List ℕ) → length xs ≡ 128 → getD xs i 0 ≡ length bench + length maker → i < 128 → getD (marked bench 0 (marked maker (length bench) xs)) i 0 ≡ placeOf bench maker i
+  unfolding marked placeOf
   place-in xs l e h =
       let z : 0 + placeIn bench i ≡ placeIn bench i = omega arith in
       marked-place bench 0 (marked maker (length bench) xs) (omega (arith, length-marked maker (length bench) 0 xs))
-      ∙ ap (λ (d : ℕ). cond (hasRow bench i) (0 + placeIn bench i) d) (marked-place maker (length bench) xs (omega arith) ∙ ap (λ (d : ℕ). cond (hasRow maker i) (length bench + placeIn maker i) d) e)
-      ∙ ap (λ (p : ℕ). cond (hasRow bench i) p (cond (hasRow maker i) (length bench + placeIn maker i) (length bench + length maker))) z
+      ∙ ap (λ (d : ℕ). cond (hasRow bench i) (0 + placeIn bench i) d)
+      (marked-place maker (length bench) xs (omega arith) ∙ ap (λ (d : ℕ). cond (hasRow maker i) (length bench + placeIn maker i) d) e ∙ in-one maker (length bench))
+      ∙ ap (λ (p : ℕ). cond (hasRow bench i) p (length bench + placeIn maker i)) z
 
   -- behind the bench sheet lies the maker's
   part-behind : (k : ℕ) → partAt bench maker (length bench + k) ≡ take 6 (drop k maker)
@@ -190,24 +216,14 @@ module _ (bench maker : List ℤ) (i : ℕ) where
   unfolding partAt hasRow
   in-bench t = rw t (sym (stands bench i .row))
 
-  in-maker : partAt bench maker (cond (hasRow maker i) (length bench + placeIn maker i) (length bench + length maker)) ≡ rowIn maker i
-  unfolding hasRow
-  in-maker =
-      let r = stands maker i in
-      by-test (ltb (placeIn maker i) (length maker))
-      (λ t. rw t (part-behind (placeIn maker i) ∙ sym (r .row)))
-      (λ t. let e : length maker ≡ placeIn maker i = omega (arith, ltb-false (placeIn maker i) (length maker) t, r .within) in
-      rw t (part-behind (length maker) ∙ ap (λ (k : ℕ). take 6 (drop k maker)) e ∙ sym (r .row)))
-
   -- the part at a code's place in the index is its row
   pub index-row : i < 128 → partAt bench maker (getD (indexOf bench maker) i 0) ≡ rowOf bench maker i
-  unfolding indexOf
+  unfolding placeOf
   index-row h =
-      let end = length bench + length maker in
-      ap (partAt bench maker) (place-in (replicate 128 end) (length-replicate 128 end) (getD-replicate 128 i end 0 h) h)
+      ap (partAt bench maker) (index-place bench maker i h)
       ∙ by-test (hasRow bench i)
       (λ t. rw t (in-bench t) ∙ sym (bench-wins bench maker i t))
-      (λ t. rw t in-maker ∙ sym (maker-else bench maker i t))
+      (λ t. rw t (part-behind (placeIn maker i) ∙ sym (stands maker i .row)) ∙ sym (maker-else bench maker i t))
 
   -- a code behind the index has no row
   past-entry : 128 ≤ i → entryIn bench maker i ≡ Missing
@@ -236,3 +252,14 @@ module _ (bench maker : List ℤ) (i : ℕ) where
       (λ t. let h = ltb-false i 128 t in
       ap (λ (k : ℕ). entryBy (partAt bench maker k)) (List·getD-eq-default places end {n = i} (omega (arith, index-long bench maker)))
       ∙ end-entry ∙ sym (past-entry h))
+
+-- the bench's rows marked over the maker's are the index
+pub marked-both : (bench maker : List ℤ) → marked bench 0 (marked maker (length bench) (replicate 128 (length bench + length maker))) ≡ indexOf bench maker
+unfolding marked
+marked-both bench maker =
+    let end = length bench + length maker in
+    let long = length-marked bench 0 0 (marked maker (length bench) (replicate 128 end)) ∙ length-marked maker (length bench) 0 (replicate 128 end) in
+    ext-getD 0 _ (indexOf bench maker) (long ∙ sym (index-long bench maker))
+    (λ i h.
+    let l : i < 128 = omega (arith, long) in
+    place-in bench maker i (replicate 128 end) (length-replicate 128 end) (getD-replicate 128 i end 0 l) l ∙ sym (index-place bench maker i l))

@@ -1,30 +1,27 @@
 -- A sheet of one row of step 1 from -9,999 to 9,999: it is sound, it shows its row for its identifier and nothing for any other, and
 -- with a number of four digits in its place the values are sound. And no rows are a sound sheet that allows any values.
 -- Assumes nothing.
-use mathlib.Core.Path.{_≡_, refl, sym, _∙_, subst}
+use mathlib.Core.Path.{_≡_, refl, sym, _∙_}
 use mathlib.Core.Bool.{true, false}
 use mathlib.Core.List.{List, [], _∷_}
 use Prim.Native.Nat.{ℕ, _≤_}
 use native.Mathlib.Omega.{arith}
-use borrow.Author.Tests.{eqb-true, eqb-false, ne-eqb, le-leb}
+use borrow.Author.Tests.{le-leb}
 use lib.Dec.{eqb, lit≤}
 use lib.IntN.{ℤ, pos, negsuc, natAbs}
 use lib.ListN.{length, getD, set, replicate, length-set}
-use Rattle.refusal.proofs.Logic.{choice, by-test}
+use Rattle.refusal.proofs.Logic.{and-both}
 use Rattle.number.specs.Number.{inRange}
 use Rattle.number.proofs.Cuts.{ends-in-range, four-digits, one-multiple}
 use Rattle.message.specs.Message.{question, isIdentifier}
 use Rattle.message.proofs.Messages.{plain-identifier}
 use Rattle.sheet.specs.declared.Row.{Row}
-use Rattle.sheet.specs.declared.Entry.the-variants.{Found, Missing}
+use Rattle.sheet.specs.declared.Entry.the-variants.{Found}
 use Rattle.sheet.specs.Sheet.{rows, soundRow, soundRows, soundSheet}
-use Rattle.sheet.specs.Lookup.{isCode, isFor, rowAmong, rowIn, hasRow, rowOf}
-use Rattle.sheet.specs.Values.{numbersOf, entryIn, fitsRow, soundValues}
+use Rattle.sheet.specs.Values.{numbersOf, entryIn, soundValues}
 use Rattle.sheet.proofs.Sheets.{parts-row, code-sound, alone-sound}
-use Rattle.sheet.proofs.Values.{alone-entry, entry-none, parts-fit, values-good, set-here}
-
-missing-found : {r : Row} → Missing ≡ Found r → ⊥
-missing-found e = let z : _≡_ {A = ℕ} 0 1 = cc in omega arith
+use Rattle.sheet.proofs.Values.{alone-entry, parts-fit, set-here}
+use Rattle.sheet.proofs.Tables.{fitsTest, fits-test, allowed-sound}
 
 -- ---- no rows
 
@@ -32,13 +29,9 @@ pub no-rows : soundSheet [] ≡ true
 unfolding soundSheet soundRows rows
 no-rows = refl
 
-nowhere : (i : ℕ) → rowOf [] [] i ≡ []
-unfolding rowOf rowIn rowAmong rows
-nowhere i = choice (λ (l : List ℤ). l ≡ []) (hasRow [] i) (λ t. refl) (λ t. refl)
-
 pub no-rows-values : (vs : List ℤ) → length vs ≡ 128 → soundValues [] [] vs ≡ true
-no-rows-values vs n =
-    values-good [] [] vs no-rows no-rows (record { count = n; each = λ i r e. absurd (missing-found (sym (entry-none [] [] i (nowhere i)) ∙ e)) })
+unfolding rows
+no-rows-values vs n = allowed-sound [] vs n refl .0
 
 -- ---- one row
 
@@ -51,11 +44,6 @@ itsNumbers access d = record { access = access; decimals = d; step = pos 1; leas
 -- a number in the place of an identifier, and 0 in every other
 abbrev pub oneValue : ℕ → ℤ → List ℤ
 oneValue i n = set (replicate 128 (pos 0)) i n
-
-elsewhere : (i access d k : ℕ) → (i ≡ k → ⊥) → rowOf (oneRow i access d) [] k ≡ []
-unfolding rowOf rowIn rowAmong rows isFor isCode
-elsewhere i access d k f =
-    choice (λ (l : List ℤ). l ≡ []) (hasRow (oneRow i access d) k) (λ t. rw (ne-eqb i k f)) (λ t. refl)
 
 module _ (i access d : ℕ) (pi : isIdentifier i ≡ true) (q : eqb i question ≡ false) (r : inRange (pos 1) (pos access) (pos 3) ≡ true) (k : d ≤ 3) where
   one-row : soundRow (oneRow i access d) ≡ true
@@ -83,13 +71,8 @@ module _ (i access d : ℕ) (pi : isIdentifier i ≡ true) (q : eqb i question �
   one-there n = set-here (replicate 128 (pos 0)) i n (plain-identifier i pi .small)
 
   pub one-values : (n : ℤ) → natAbs n ≤ 9999 → soundValues (oneRow i access d) [] (oneValue i n) ≡ true
-  one-values n h = values-good (oneRow i access d) [] (oneValue i n) one-sound no-rows (record {
-    count = length-set (replicate 128 (pos 0)) i n;
-    each = λ j x e. by-test (eqb i j)
-        (λ t.
-        let same : i ≡ j = eqb-true i j t in
-        let its : itsNumbers access d ≡ x = cc one-entry in
-        subst (λ (s : ℕ). fitsRow x (getD (oneValue i n) s (pos 0)) ≡ true) same
-        (rw (← its, one-there n) (parts-fit (itsNumbers access d) n (four-digits n h) (one-multiple n))))
-        (λ t. absurd (missing-found (sym (entry-none (oneRow i access d) [] j (elsewhere i access d j (eqb-false i j t))) ∙ e)));
-  })
+  unfolding rows numbersOf
+  one-values n h =
+      let r = oneRow i access d in
+      let its : fitsTest r n ≡ true = sym (fits-test r n) ∙ parts-fit (itsNumbers access d) n (four-digits n h) (one-multiple n) in
+      allowed-sound r (oneValue i n) (length-set (replicate 128 (pos 0)) i n) (rw (one-there n) (and-both its refl)) .1

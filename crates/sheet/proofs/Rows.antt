@@ -1,6 +1,6 @@
 -- A sheet from a place on, row by row, as the loops go through it, and what the place of a row says. Assumes nothing.
 use mathlib.Core.Path.{_≡_, refl, sym, ap, _∙_}
-use mathlib.Core.Bool.{Bool, true, false, _&&_}
+use mathlib.Core.Bool.{Bool, true, false, cond, _&&_}
 use mathlib.Core.List.{List, [], _∷_}
 use Prim.Native.Nat.{ℕ, _+_, _*_, _-_, _≤_, _<_}
 use native.Mathlib.Numerals.{add-one}
@@ -13,7 +13,7 @@ use lib.ListN.{length, take, drop, length-drop}
 use lib.Seq.{drop-cons, drop-drop}
 use Rattle.refusal.proofs.Logic.{by-test}
 use Rattle.sheet.specs.Sheet.{at, rows, soundRow, soundRows, soundSheet}
-use Rattle.sheet.specs.Lookup.{isCode, isFor, rowAmong, placeAmong, rowIn, placeIn}
+use Rattle.sheet.specs.Lookup.{codeIs, isFor, rowAmong, placeAmong, rowIn, placeIn}
 
 -- ---- a whole row and what lies behind it
 
@@ -33,27 +33,40 @@ cut s i h =
     ∙ more _ (one s (i + 4) (i + 5) (omega arith) (omega arith)
     ∙ more _ (one s (i + 5) (i + 6) (omega arith) (omega arith))))))
 
+pub rows-cut : (s : List ℤ) (i : ℕ) → i + 6 ≤ length s → rows (drop i s) ≡ take 6 (drop i s) ∷ rows (drop (i + 6) s)
+unfolding rows
+rows-cut s i h = rw (cut s i h)
+
+-- fewer than six numbers are at most one row
+pub rows-short : (l : List ℤ) → length l < 6 → rows l ≡ cond (eqb (length l) 0) [] (l ∷ [])
+unfolding rows
+rows-short [] h = refl
+rows-short (a ∷ []) h = refl
+rows-short (a ∷ b ∷ []) h = refl
+rows-short (a ∷ b ∷ c ∷ []) h = refl
+rows-short (a ∷ b ∷ c ∷ d ∷ []) h = refl
+rows-short (a ∷ b ∷ c ∷ d ∷ e ∷ []) h = refl
+rows-short (a ∷ b ∷ c ∷ d ∷ e ∷ f ∷ l) h = absurd (omega arith)
+
 -- ---- the place of an identifier's row
 
 module _ (s : List ℤ) (i id : ℕ) (h : i + 6 ≤ length s) where
-  pub place-here : isCode (at s i) id ≡ true → placeIn (drop i s) id ≡ 0
+  pub place-here : codeIs (at s i) id ≡ true → placeIn (drop i s) id ≡ 0
   unfolding placeIn placeAmong rows isFor
   place-here e = rw (cut s i h) (rw e)
 
-  pub place-later : isCode (at s i) id ≡ false → placeIn (drop i s) id ≡ 6 + placeIn (drop (i + 6) s) id
+  pub place-later : codeIs (at s i) id ≡ false → placeIn (drop i s) id ≡ 6 + placeIn (drop (i + 6) s) id
   unfolding placeIn placeAmong rows isFor
   place-later e = rw (cut s i h) (rw e)
 
 -- fewer than six numbers hold no row
 pub place-none : (l : List ℤ) (id : ℕ) → length l < 6 → placeIn l id ≡ length l
-unfolding placeIn placeAmong rows isFor
-place-none [] id h = refl
-place-none (a ∷ []) id h = refl
-place-none (a ∷ b ∷ []) id h = refl
-place-none (a ∷ b ∷ c ∷ []) id h = refl
-place-none (a ∷ b ∷ c ∷ d ∷ []) id h = refl
-place-none (a ∷ b ∷ c ∷ d ∷ e ∷ []) id h = refl
-place-none (a ∷ b ∷ c ∷ d ∷ e ∷ f ∷ l) id h = absurd (omega arith)
+unfolding placeIn placeAmong isFor
+place-none l id h =
+    rw (rows-short l h)
+    (by-test (eqb (length l) 0)
+    (λ t. rw t (sym (eqb-true (length l) 0 t)))
+    (λ t. rw (t, ne-eqb (length l) 6 (λ (e : length l ≡ 6). omega arith)) (omega arith)))
 
 -- where the row stands: a whole row at its place, or the end of the sheet
 pub record Stands (s : List ℤ) (i : ℕ) : Type 0 where
@@ -71,7 +84,7 @@ stands (a ∷ b ∷ c ∷ d ∷ []) i = record { whole = λ h. absurd (omega ari
 stands (a ∷ b ∷ c ∷ d ∷ e ∷ []) i = record { whole = λ h. absurd (omega arith); within = omega arith; row = refl }
 stands (a ∷ b ∷ c ∷ d ∷ e ∷ f ∷ s) i =
     let r = stands s i in
-    by-test (isCode a i)
+    by-test (codeIs a i)
     (λ t. record { whole = rw t (λ h. omega arith); within = rw t (omega arith); row = rw t refl })
     (λ t. record {
       whole = rw t (λ h. omega (arith, r .whole (omega arith)));
@@ -97,14 +110,12 @@ module _ (s : List ℤ) (i : ℕ) (last : ℤ) (h : i + 6 ≤ length s) where
   rows-bad e = soundRows-cut ∙ rw e
 
 rows-end : (l : List ℤ) (last : ℤ) → length l < 6 → soundRows last (rows l) ≡ eqb (length l) 0
-unfolding soundRows rows soundRow
-rows-end [] last h = refl
-rows-end (a ∷ []) last h = refl
-rows-end (a ∷ b ∷ []) last h = refl
-rows-end (a ∷ b ∷ c ∷ []) last h = refl
-rows-end (a ∷ b ∷ c ∷ d ∷ []) last h = refl
-rows-end (a ∷ b ∷ c ∷ d ∷ e ∷ []) last h = refl
-rows-end (a ∷ b ∷ c ∷ d ∷ e ∷ f ∷ l) last h = absurd (omega arith)
+unfolding soundRows soundRow
+rows-end l last h =
+    rw (rows-short l h)
+    (by-test (eqb (length l) 0)
+    (λ t. rw t refl)
+    (λ t. rw (t, ne-eqb (length l) 6 (λ (e : length l ≡ 6). omega arith)) refl))
 
 same-end : (t : Bool) (i n : ℕ) → i ≤ n → eqb i n ≡ t → t ≡ eqb (n - i) 0
 same-end true i n h e = let q : i ≡ n = eqb-true i n e in sym (eq-eqb (n - i) 0 (omega arith))

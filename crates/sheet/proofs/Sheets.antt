@@ -1,26 +1,33 @@
 -- What a sound row and a sound sheet give, and what the lookup finds. Whoever uses a sheet cites these, and never the definitions.
 -- Assumes nothing.
-use mathlib.Core.Path.{_≡_, refl, sym, ap, _∙_}
-use mathlib.Core.Bool.{true, false, _&&_, false≢true}
+use mathlib.Core.Path.{_≡_, refl, sym, ap, ap₂, _∙_}
+use mathlib.Core.Bool.{Bool, true, false, not, _&&_, false≢true}
 use mathlib.Core.List.{List, [], _∷_}
 use Prim.Native.Nat.{ℕ, zero, suc, _+_, _≤_}
 use native.Mathlib.Omega.{arith}
 use borrow.Author.Tests.{eqb-true, eq-eqb, ltb-true, ltb-false, lt-ltb, leb-true}
-use lib.Dec.{T, eqb}
+use lib.Dec.{T, leb, eqb}
 use lib.IntN.{ℤ, pos, negsuc, natAbs}
 use lib.Signed.{leZ, ltZ, nonNeg}
-use lib.ListN.{length, take, drop, length-drop}
-use lib.Seq.{length-take-le, drop-length}
+use lib.ListN.{length, take, drop, length-drop, drop-of-length-le}
+use lib.Seq.{length-take-le, drop-length, take-all}
 use mir.Syntax.{w32}
 use mir.Val.{SFits}
 use Rattle.refusal.proofs.Logic.{ands, and-both, not-is, choice, by-test}
 use Rattle.number.specs.Number.{inRange, isMultiple}
+use Rattle.number.specs.Data.{isDigit}
 use Rattle.number.proofs.Signed.{rd, rd-is}
 use Rattle.number.proofs.Cuts.{in-range-ends, leZ-trans}
 use Rattle.message.specs.Message.{isIdentifier, question}
 use Rattle.sheet.specs.Sheet.{at, rows, soundIdentifier, soundNumbers, soundRow, soundRows, soundSheet}
-use Rattle.sheet.specs.Lookup.{isCode, isFor, rowAmong, rowIn, placeIn, hasRow, rowOf, shown, from, rowLies}
-use Rattle.sheet.proofs.Rows.{stands}
+use Rattle.sheet.specs.Lookup.{codeIs, isFor, rowAmong, rowIn, placeIn, hasRow, rowOf, shown, from, rowLies}
+use Rattle.sheet.proofs.Rows.{rows-cut, stands}
+
+-- two tests that pass together
+pub same-test : (a b : Bool) → (a ≡ true → b ≡ true) → (b ≡ true → a ≡ true) → a ≡ b
+same-test true b f g = sym (f refl)
+same-test false true f g = g refl
+same-test false false f g = refl
 
 -- ---- a number in a range that starts at zero or above, as the code casts it
 
@@ -78,10 +85,20 @@ pub code-sound : (i : ℕ) → isIdentifier i ≡ true → eqb i question ≡ fa
 unfolding soundIdentifier
 code-sound i p q = simp (p, q)
 
-is-code : (z : ℤ) (i : ℕ) → isCode z i ≡ true → z ≡ pos i
-unfolding isCode
-is-code (pos n) i e = ap pos (eqb-true n i e)
-is-code (negsuc n) i e = absurd (false≢true e)
+-- the same written out, so that it computes where nothing of other crates is opened
+abbrev pub codeTest : ℤ → Bool
+codeTest (pos n) = (leb 33 n && leb n 126 && not (leb 48 n && leb n 57) && not (eqb n 42)) && not (eqb n question)
+codeTest (negsuc n) = false
+
+pub code-test : (z : ℤ) → soundIdentifier z ≡ codeTest z
+unfolding soundIdentifier isIdentifier isDigit
+code-test (pos n) = refl
+code-test (negsuc n) = refl
+
+code-is : (z : ℤ) (i : ℕ) → codeIs z i ≡ true → z ≡ pos i
+unfolding codeIs
+code-is (pos n) i e = ap pos (eqb-true n i e)
+code-is (negsuc n) i e = absurd (false≢true e)
 
 -- ---- the row of an identifier in one sheet
 
@@ -90,9 +107,9 @@ pub record RowFor (i : ℕ) (r : List ℤ) : Type 0 where
   pub six : length r ≡ 6
   pub its : at r 0 ≡ pos i
 
-row-for : (r : List ℤ) (i : ℕ) → isFor r i ≡ true → RowFor i r
+pub row-for : (r : List ℤ) (i : ℕ) → isFor r i ≡ true → RowFor i r
 unfolding isFor
-row-for r i e = record { six = eqb-true (length r) 6 (search ands); its = is-code (at r 0) i (search ands) }
+row-for r i e = record { six = eqb-true (length r) 6 (search ands); its = code-is (at r 0) i (search ands) }
 
 -- what holds of no row and of each row for the identifier holds of what is found
 among : (P : List ℤ → Type 0) (rs : List (List ℤ)) (i : ℕ) → P [] → ((r : List ℤ) → RowFor i r → P r) → P (rowAmong rs i)
@@ -201,21 +218,15 @@ module _ (bench maker : List ℤ) (i : ℕ) where
 
 -- a sound identifier is above 0
 above : (z : ℤ) → soundIdentifier z ≡ true → ltZ (pos 0) z ≡ true
-unfolding soundIdentifier isIdentifier
-above (pos zero) e = absurd (false≢true e)
+above (pos zero) e = absurd (false≢true (sym (code-test (pos 0)) ∙ e))
 above (pos (suc n)) e = lt-ltb 0 (suc n) (omega arith)
-above (negsuc n) e = absurd (false≢true e)
+above (negsuc n) e = absurd (false≢true (sym (code-test (negsuc n)) ∙ e))
 
 alone : (r : List ℤ) → length r ≡ 6 → rows r ≡ r ∷ []
 unfolding rows
-alone [] h = absurd (omega arith)
-alone (a ∷ []) h = absurd (omega arith)
-alone (a ∷ b ∷ []) h = absurd (omega arith)
-alone (a ∷ b ∷ c ∷ []) h = absurd (omega arith)
-alone (a ∷ b ∷ c ∷ d ∷ []) h = absurd (omega arith)
-alone (a ∷ b ∷ c ∷ d ∷ e ∷ []) h = absurd (omega arith)
-alone (a ∷ b ∷ c ∷ d ∷ e ∷ f ∷ []) h = refl
-alone (a ∷ b ∷ c ∷ d ∷ e ∷ f ∷ g ∷ r) h = absurd (omega arith)
+alone r h =
+    rows-cut r 0 (omega arith)
+    ∙ ap₂ (λ (x y : List ℤ). x ∷ rows y) (take-all 6 r (omega arith)) (let k : length r ≤ 6 = omega arith in drop-of-length-le r k)
 
 pub alone-sound : (r : List ℤ) → soundRow r ≡ true → soundSheet r ≡ true
 unfolding soundSheet soundRows
@@ -224,5 +235,5 @@ alone-sound r e =
     rw (alone r (p .six)) (and-both refl (and-both (and-both e (above (at r 0) (p .identifier))) refl))
 
 pub alone-row : (r : List ℤ) (i : ℕ) → RowFor i r → rowIn r i ≡ r
-unfolding rowIn rowAmong isFor isCode
+unfolding rowIn rowAmong isFor codeIs
 alone-row r i q = rw (alone r (q .six)) (rw (q .its) (rw (eq-eqb (length r) 6 (q .six), eq-eqb i i refl)))

@@ -75,9 +75,6 @@ module _ (bench maker : List ℤ) (i : ℕ) where
     pub entry-sound : SoundRow r
     entry-sound = subst SoundRow (entry-numbers .1) (numbers-sound (rowOf bench maker i) (entry-numbers .0))
 
-    entry-six : length (rowOf bench maker i) ≡ 6
-    entry-six = row-parts (rowOf bench maker i) (entry-numbers .0) .six
-
     entry-code : soundIdentifier (pos i) ≡ true
     entry-code =
         row-of-cases bench maker i (λ (l : List ℤ). soundRow l ≡ true → soundIdentifier (pos i) ≡ true)
@@ -194,13 +191,13 @@ fits-found l r v e =
     rw (eq-eqb (length l) 6 (row-parts l (f .0) .six)) (ap (λ (x : Row). fitsRow x v) (f .1))
 
 module _ (bench maker : List ℤ) where
-  places : (vs : List ℤ) → soundValues bench maker vs ≡ true → (i : ℕ) → i < 128 → fitsPlace (rowOf bench maker i) (at vs i) ≡ true
+  pub places : (vs : List ℤ) → soundValues bench maker vs ≡ true → (i : ℕ) → i < 128 → fitsPlace (rowOf bench maker i) (at vs i) ≡ true
   unfolding soundValues
   places vs e i h =
       let n : length vs ≡ 128 = eqb-true (length vs) 128 (search ands) in
       rw zero-add at (at-place bench maker 0 vs (search ands) i (omega arith))
 
-  from-places : (vs : List ℤ) → length vs ≡ 128 → ((i : ℕ) → i < 128 → fitsPlace (rowOf bench maker i) (at vs i) ≡ true) → soundValues bench maker vs ≡ true
+  pub from-places : (vs : List ℤ) → length vs ≡ 128 → ((i : ℕ) → i < 128 → fitsPlace (rowOf bench maker i) (at vs i) ≡ true) → soundValues bench maker vs ≡ true
   unfolding soundValues
   from-places vs n f =
       and-both (eq-eqb (length vs) 128 n) (all-places bench maker 0 vs (λ k l. rw zero-add (f k (omega (arith, n)))))

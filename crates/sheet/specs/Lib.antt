@@ -1,3 +1,4 @@
 pub mod Sheet
 pub mod Lookup
 pub mod Values
+pub mod Inner

@@ -1,22 +1,22 @@
 -- The row of an identifier in two sheets: its six numbers, and the part of the sheet where they stand.
 use mathlib.Core.Bool.{Bool, false, cond, _&&_}
 use mathlib.Core.List.{List, [], _∷_}
-use Prim.Native.Nat.{ℕ, suc, _+_, _*_, _-_}
+use Prim.Native.Nat.{ℕ, zero, suc, _+_, _*_, _-_}
 use lib.Dec.{ltb, eqb}
 use lib.IntN.{ℤ, pos, negsuc}
-use lib.ListN.{length, set, take, drop, replicate}
+use lib.ListN.{length, take, drop}
 use Rattle.sheet.specs.Sheet.{at, rows, soundSheet}
 
 -- ---- in one sheet
 
--- a number that is a character's code
-unfoldable pub isCode : ℤ → ℕ → Bool
-isCode (pos n) i = eqb n i
-isCode (negsuc n) i = false
+-- a number that is this character's code
+unfoldable pub codeIs : ℤ → ℕ → Bool
+codeIs (pos n) i = eqb n i
+codeIs (negsuc n) i = false
 
 -- a whole row with the identifier i
 unfoldable pub isFor : List ℤ → ℕ → Bool
-isFor r i = eqb (length r) 6 && isCode (at r 0) i
+isFor r i = eqb (length r) 6 && codeIs (at r 0) i
 
 -- the first such row, or none
 unfoldable pub rowAmong : List (List ℤ) → ℕ → List ℤ
@@ -28,9 +28,11 @@ unfoldable pub placeAmong : List (List ℤ) → ℕ → ℕ
 placeAmong [] i = 0
 placeAmong (r ∷ rs) i = cond (isFor r i) 0 (length r + placeAmong rs i)
 
+-- the row of an identifier in a sheet, or none
 unfoldable pub rowIn : List ℤ → ℕ → List ℤ
 rowIn s i = rowAmong (rows s) i
 
+-- where it starts: the end of the sheet where there is none
 unfoldable pub placeIn : List ℤ → ℕ → ℕ
 placeIn s i = placeAmong (rows s) i
 
@@ -48,25 +50,21 @@ rowOf bench maker i = cond (hasRow bench i) (rowIn bench i) (rowIn maker i)
 unfoldable pub shown : List ℤ → List ℤ → ℕ → List ℤ
 shown bench maker i = cond (soundSheet bench && soundSheet maker) (rowOf bench maker i) []
 
--- ---- the same by an index: where each row starts in the two sheets, the maker's behind the bench's
+-- ---- the same by an index: where each row starts in the two sheets, the maker's behind the bench's. `index` promises `indexOf`, and
+-- `find_at` what stands at a place of it.
 
--- the places of a sheet's rows, from the code i on; a code that has no row keeps its place
-unfoldable pub markedFrom : List ℤ → ℕ → ℕ → List ℕ → List ℕ
-markedFrom s base i [] = []
-markedFrom s base i (x ∷ xs) = cond (hasRow s i) (base + placeIn s i) x ∷ markedFrom s base (suc i) xs
+-- the place of an identifier's row, a row of the bench sheet before one of the maker's; behind both where there is none
+unfoldable pub placeOf : List ℤ → List ℤ → ℕ → ℕ
+placeOf bench maker i = cond (hasRow bench i) (placeIn bench i) (length bench + placeIn maker i)
 
--- the places of a list, with those of the sheet's rows in them, counted from base
-unfoldable pub marked : List ℤ → ℕ → List ℕ → List ℕ
-marked s base xs = markedFrom s base 0 xs
+-- the places of n character codes from i on
+unfoldable pub placesFrom : List ℤ → List ℤ → ℕ → ℕ → List ℕ
+placesFrom bench maker i zero = []
+placesFrom bench maker i (suc n) = placeOf bench maker i ∷ placesFrom bench maker (suc i) n
 
--- one row alone
-unfoldable pub markedRow : ℤ → ℕ → List ℕ → List ℕ
-markedRow (pos n) place xs = set xs n place
-markedRow (negsuc n) place xs = xs
-
--- a row of the bench sheet before one of the maker's; behind both where there is none
+-- one place for each character code
 unfoldable pub indexOf : List ℤ → List ℤ → List ℕ
-indexOf bench maker = marked bench 0 (marked maker (length bench) (replicate 128 (length bench + length maker)))
+indexOf bench maker = placesFrom bench maker 0 128
 
 -- the six numbers from a place on
 unfoldable pub partAt : List ℤ → List ℤ → ℕ → List ℤ
@@ -83,6 +81,7 @@ from p k = (p .0, k * 4 + p .1)
 unfoldable pub rowLies : ℕ × ℕ → ℕ × ℕ → List ℤ → List ℤ → ℕ → ℕ × ℕ
 rowLies b m bench maker i = cond (hasRow bench i) (from b (placeIn bench i)) (from m (placeIn maker i))
 
+-- where the part that the lookup shows lies
 unfoldable pub shownLies : ℕ × ℕ → ℕ × ℕ → List ℤ → List ℤ → ℕ → ℕ × ℕ
 shownLies b m bench maker i =
     cond (soundSheet bench && soundSheet maker) (rowLies b m bench maker i) (from m (length maker))

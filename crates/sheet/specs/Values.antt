@@ -22,10 +22,11 @@ numbersOf r = record { access = natAbs (at r 1); decimals = natAbs (at r 2); ste
 unfoldable pub entryOf : List ℤ → Entry
 entryOf r = cond (soundRow r) (Found (numbersOf r)) Missing
 
+-- the row of an identifier in two sheets, by value
 unfoldable pub entryIn : List ℤ → List ℤ → ℕ → Entry
 entryIn bench maker i = entryOf (rowOf bench maker i)
 
--- the same where less is tested: six numbers, of which access and decimals are in range
+-- for `find_at`, which tests less: six numbers, of which access and decimals are in range
 unfoldable pub wholeRow : List ℤ → Bool
 wholeRow r = eqb (length r) 6 && inRange (pos 1) (at r 1) (pos 3) && inRange (pos 0) (at r 2) (pos 3)
 
@@ -37,13 +38,15 @@ entryBy r = cond (wholeRow r) (Found (numbersOf r)) Missing
 unfoldable pub entryAt : List ℤ → List ℤ → List ℕ → ℕ → Entry
 entryAt bench maker places i = entryBy (partAt bench maker (getD places i (length bench + length maker)))
 
--- document 01: access is "1 read only, 2 read and write, 3 write only"
+-- document 01: "access (1 read only, 2 read and write, 3 write only)"; all but "write only" can be read
 unfoldable pub isReadable : Row → Bool
 isReadable r = not (eqb (r .access) 3)
 
+-- all but "read only"
 unfoldable pub isWritable : Row → Bool
 isWritable r = not (eqb (r .access) 1)
 
+-- "read and write"
 unfoldable pub isReadWrite : Row → Bool
 isReadWrite r = eqb (r .access) 2
 

@@ -4,9 +4,10 @@ ghost use mathlib.Core.Path.{_≡_};
 ghost use mathlib.Core.Bool.{true};
 ghost use Prim.Native.Nat.{_+_, _≤_};
 ghost use lib.ListN.{length, getD, take, drop};
-ghost use Rattle.sheet.specs.Sheet.{soundIdentifier, soundNumbers, soundRow, soundSheet};
-ghost use Rattle.sheet.specs.Lookup.{isCode, placeIn, rowOf, shown, markedRow, marked, indexOf, partAt, rowLies, shownLies};
+ghost use Rattle.sheet.specs.Sheet.{at, rows, soundIdentifier, soundNumbers, soundRow, soundSheet};
+ghost use Rattle.sheet.specs.Lookup.{codeIs, placeIn, rowOf, shown, indexOf, partAt, from, rowLies, shownLies};
 ghost use Rattle.sheet.specs.Values.{numbersOf, wholeRow, entryOf, entryIn, entryAt, isReadable, isWritable, isReadWrite, fitsRow, fitsPlace, soundValues};
+ghost use Rattle.sheet.specs.Inner.{markedRow, marked, fitsOnce, fitsRows, seenRows};
 
 // Character codes, each of which may have a row and has a value.
 pub const CODES: usize = 128;
@@ -92,19 +93,19 @@ pub fn sound_sheet(sheet: &[i32]) -> bool
 }
 
 // The number is the identifier's code.
-fn is_code(x: i32, identifier: u8) -> bool
-    ensures { λ r. ⌜ r ≡ isCode x identifier ⌝ }
+fn code_is(x: i32, identifier: u8) -> bool
+    ensures { λ r. ⌜ r ≡ codeIs x identifier ⌝ }
 {
     x == identifier as i32
 }
 
 // Where the identifier's row starts; the sheet's end where there is none.
-fn place(sheet: &[i32], identifier: u8) -> usize
+fn place_in(sheet: &[i32], identifier: u8) -> usize
     ensures { λ r. ⌜ r ≡ placeIn (now (sheet .entry)) identifier ⌝ }
 {
     let mut i = 0;
     while 6 <= sheet.len() - i {
-        if is_code(sheet[i], identifier) {
+        if code_is(sheet[i], identifier) {
             return i;
         }
         i += 6;
@@ -112,22 +113,33 @@ fn place(sheet: &[i32], identifier: u8) -> usize
     sheet.len()
 }
 
+// Six numbers from a place on, or those that are left.
+fn six<'a>(sheet: &'a [i32], start: usize) -> &'a [i32]
+    ensures numbers { λ r. ⌜ now r ≡ take 6 (drop start (now (sheet .entry))) ⌝ }
+    ensures lies { λ r. ⌜ (start ≤ length (now (sheet .entry)) → r .ptr ≡ from (sheet .entry .ptr) start) ⌝ }
+{
+    let len = sheet.len();
+    if len <= start {
+        return &sheet[len..len];
+    }
+    if len - start < 6 {
+        return &sheet[start..len];
+    }
+    let end = start + 6;
+    &sheet[start..end]
+}
+
 // The row of an identifier, as the part of the sheet it stands in. No sheet is tested: a run has done so once.
 pub fn find_row<'a>(bench: &'a [i32], maker: &'a [i32], identifier: u8) -> &'a [i32]
     ensures numbers { λ r. ⌜ now r ≡ rowOf (now (bench .entry)) (now (maker .entry)) identifier ⌝ }
     ensures lies { λ r. ⌜ r .ptr ≡ rowLies (bench .entry .ptr) (maker .entry .ptr) (now (bench .entry)) (now (maker .entry)) identifier ⌝ }
 {
-    let b = place(bench, identifier);
-    if b < bench.len() {
-        let end = b + 6;
-        return &bench[b..end];
+    let in_bench = place_in(bench, identifier);
+    if in_bench < bench.len() {
+        return six(bench, in_bench);
     }
-    let m = place(maker, identifier);
-    if m < maker.len() {
-        let end = m + 6;
-        return &maker[m..end];
-    }
-    &maker[m..m]
+    let in_maker = place_in(maker, identifier);
+    six(maker, in_maker)
 }
 
 // The lookup: an empty part where there is no row, or a sheet is unsound.
@@ -176,21 +188,6 @@ pub fn index<'a>(bench: &'a [i32], maker: &'a [i32]) -> [usize; CODES]
     mark(maker, bench.len(), &mut places);
     mark(bench, 0, &mut places);
     places
-}
-
-// Six numbers from a place on, or those that are left.
-fn six<'a>(sheet: &'a [i32], from: usize) -> &'a [i32]
-    ensures { λ r. ⌜ now r ≡ take 6 (drop from (now (sheet .entry))) ⌝ }
-{
-    let len = sheet.len();
-    if len <= from {
-        return &sheet[len..len];
-    }
-    if len - from < 6 {
-        return &sheet[from..len];
-    }
-    let end = from + 6;
-    &sheet[from..end]
 }
 
 // The part of the two sheets that starts at a place of the index.
@@ -311,21 +308,49 @@ fn fits_place(part: &[i32], value: i32) -> bool
     number::in_range(part[4], value, part[5]) & number::is_multiple(value, part[3])
 }
 
-// 128 values, each allowed by the row of its place.
+// The value at a row's code, where no row with that code was seen before; the code is seen afterwards.
+fn fits_once(row: &[i32], values: &[i32], seen: &mut [u8]) -> bool
+    requires { ⌜ (length (now row) ≡ 6) × (length (now values) ≡ 128) × (length (now seen) ≡ 128) ⌝ }
+    ensures fits { λ r. ⌜ r ≡ fitsOnce (now (row .entry)) (now (values .entry)) (now (seen .entry)) ⌝ }
+    ensures seen { λ _. ⌜ now (seen .exit) ≡ markedRow (at (now (row .entry)) 0) 1 (now (seen .entry)) ⌝ }
+{
+    let code = row[0];
+    if !number::in_range(0, code, 127) {
+        return true;
+    }
+    let place = code as usize;
+    let before = seen[place];
+    seen[place] = 1;
+    let value = values[place];
+    (before != 0) | fits_place(row, value)
+}
+
+// The rows of a sheet, one after the other.
+fn fits_rows(sheet: &[i32], values: &[i32], seen: &mut [u8]) -> bool
+    requires { ⌜ (length (now values) ≡ 128) × (length (now seen) ≡ 128) ⌝ }
+    ensures fits { λ r. ⌜ r ≡ fitsRows (rows (now (sheet .entry))) (now (values .entry)) (now (seen .entry)) ⌝ }
+    ensures seen { λ _. ⌜ now (seen .exit) ≡ seenRows (rows (now (sheet .entry))) (now (seen .entry)) ⌝ }
+{
+    let mut fits = true;
+    let mut i = 0;
+    while 6 <= sheet.len() - i {
+        let next = i + 6;
+        let fit = fits_once(&sheet[i..next], values, seen);
+        fits = fits & fit;
+        i = next;
+    }
+    fits
+}
+
+// 128 values, each allowed by the row of its place: the first row with its code, the bench's before the maker's.
 pub fn sound_values<'a>(bench: &'a [i32], maker: &'a [i32], values: &[i32]) -> bool
     ensures { λ r. ⌜ r ≡ soundValues (now (bench .entry)) (now (maker .entry)) (now (values .entry)) ⌝ }
 {
     if values.len() != CODES {
         return false;
     }
-    let places = index(bench, maker);
-    let mut i: usize = 0;
-    while i < CODES {
-        let part = part_at(bench, maker, places[i]);
-        if !fits_place(part, values[i]) {
-            return false;
-        }
-        i += 1;
-    }
-    true
+    let mut seen: [u8; CODES] = [0; CODES];
+    let by_bench = fits_rows(bench, values, &mut seen);
+    let by_maker = fits_rows(maker, values, &mut seen);
+    by_bench & by_maker
 }

@@ -1,21 +1,16 @@
 -- A line built one character after the other holds those characters. Assumes nothing.
 use mathlib.Core.Path.{_≡_, refl, sym, ap, _∙_, subst}
-use mathlib.Core.Bool.{true, false, cond}
 use mathlib.Core.List.{List, [], _∷_, _++_, append-nil, append-assoc}
 use Prim.Native.Nat.{ℕ, suc, _+_, _<_, _≤_}
-use native.Mathlib.Nat.{zero-add}
 use native.Mathlib.Numerals.{add-one}
 use native.Mathlib.Omega.{arith}
 use borrow.Author.Tests.{lt-ltb}
-use lib.Dec.{leb}
-use lib.ListN.{length, getD, take, drop, set, replicate, length-append, length-set, length-take, take-append-drop, drop-of-length-le}
-use lib.Seq.{drop-cons, set-at, append-snoc, take-append-seam, take-length, paste, paste-zero, paste-suc}
-use Rattle.refusal.specs.Refusal.{gave, refused}
-use Rattle.refusal.specs.Call.{Call, laid, writes, refuses}
-use Rattle.refusal.specs.declared.Refusal.the-variants.{RoomTooShort}
-use Rattle.refusal.proofs.Calls.{laid-length}
+use lib.ListN.{length, getD, take, drop, set, replicate, length-append, length-take, take-append-drop, drop-of-length-le}
+use lib.Seq.{drop-cons, set-at, append-snoc, take-append-seam}
+use Rattle.refusal.specs.Buffer.{laid}
+use Rattle.refusal.proofs.Buffers.{laid-length}
 use Rattle.wire.specs.Word.{withParity, travelling}
-use Rattle.wire.specs.Line.{longest, empty, put, puts, lineOf, bytesOf, fitsAt, placed, placeCall}
+use Rattle.wire.specs.Line.{longestMessage, empty, put, puts, lineOf, bytesOf}
 use Rattle.wire.specs.declared.Line.{Line}
 use Rattle.wire.proofs.Words.{travelling-append, travelling-length}
 
@@ -34,16 +29,16 @@ pub empty-line : empty ≡ lineOf []
 unfolding empty lineOf laid travelling
 empty-line = refl
 
-pub put-line : (cs : List ℕ) (c : ℕ) → length cs < longest → put (lineOf cs) c ≡ lineOf (cs ++ (c ∷ []))
+pub put-line : (cs : List ℕ) (c : ℕ) → length cs < longestMessage → put (lineOf cs) c ≡ lineOf (cs ++ (c ∷ []))
 unfolding put lineOf travelling
 put-line cs c h =
-    let p : set (laid (travelling cs) (replicate longest 0)) (length cs) (withParity c) ≡ laid (travelling (cs ++ (c ∷ []))) (replicate longest 0)
-    = laid-more (travelling cs) (withParity c) (replicate longest 0) (length cs) (travelling-length cs) (omega arith)
-    ∙ ap (λ (l : List ℕ). laid l (replicate longest 0)) (sym (travelling-append cs (c ∷ []))) in
+    let p : set (laid (travelling cs) (replicate longestMessage 0)) (length cs) (withParity c) ≡ laid (travelling (cs ++ (c ∷ []))) (replicate longestMessage 0)
+    = laid-more (travelling cs) (withParity c) (replicate longestMessage 0) (length cs) (travelling-length cs) (omega arith)
+    ∙ ap (λ (l : List ℕ). laid l (replicate longestMessage 0)) (sym (travelling-append cs (c ∷ []))) in
     let q : length cs + 1 ≡ length (cs ++ (c ∷ [])) = sym (length-append cs (c ∷ [])) in
-    rw (lt-ltb (length cs) longest h) (λ j. record { bytes = p j; len = q j })
+    rw (lt-ltb (length cs) longestMessage h) (λ j. record { bytes = p j; len = q j })
 
-pub puts-line : (cs ds : List ℕ) → length cs + length ds ≤ longest → puts (lineOf cs) ds ≡ lineOf (cs ++ ds)
+pub puts-line : (cs ds : List ℕ) → length cs + length ds ≤ longestMessage → puts (lineOf cs) ds ≡ lineOf (cs ++ ds)
 unfolding puts
 puts-line cs [] h = ap lineOf (sym (append-nil cs))
 puts-line cs (d ∷ ds) h =
@@ -52,7 +47,7 @@ puts-line cs (d ∷ ds) h =
     ∙ ap lineOf (append-assoc cs (d ∷ []) ds)
 
 -- what is put on an empty line is the line of those characters
-pub puts-empty : (cs : List ℕ) → length cs ≤ longest → puts empty cs ≡ lineOf cs
+pub puts-empty : (cs : List ℕ) → length cs ≤ longestMessage → puts empty cs ≡ lineOf cs
 puts-empty cs h = ap (λ (l : Line). puts l cs) empty-line ∙ puts-line [] cs (omega arith)
 
 pub puts-append : (l : Line) (cs ds : List ℕ) → puts l (cs ++ ds) ≡ puts (puts l cs) ds
@@ -73,8 +68,8 @@ puts-done l cs i h = rw (drop-of-length-le cs h)
 pub line-bytes : (cs : List ℕ) → bytesOf (lineOf cs) ≡ travelling cs
 unfolding bytesOf lineOf laid
 line-bytes cs =
-    ap (λ (n : ℕ). take n (travelling cs ++ drop (length (travelling cs)) (replicate longest 0))) (sym (travelling-length cs))
-    ∙ take-append-seam (travelling cs) (drop (length (travelling cs)) (replicate longest 0))
+    ap (λ (n : ℕ). take n (travelling cs ++ drop (length (travelling cs)) (replicate longestMessage 0))) (sym (travelling-length cs))
+    ∙ take-append-seam (travelling cs) (drop (length (travelling cs)) (replicate longestMessage 0))
 
 pub empty-bytes : bytesOf empty ≡ []
 unfolding bytesOf empty
@@ -85,73 +80,11 @@ pub line-part : (l : Line) (cs : List ℕ) → l ≡ lineOf cs → take (l .len)
 unfolding bytesOf
 line-part l cs e = ap bytesOf e ∙ line-bytes cs
 
-pub line-fits : (l : Line) (cs : List ℕ) → l ≡ lineOf cs → length cs ≤ longest → l .len ≤ length (l .bytes)
+pub line-fits : (l : Line) (cs : List ℕ) → l ≡ lineOf cs → length cs ≤ longestMessage → l .len ≤ length (l .bytes)
 unfolding lineOf
 line-fits l cs e h =
     subst (λ (x : Line). x .len ≤ length (x .bytes)) (sym e)
-    (omega (arith, laid-length (travelling cs) (replicate longest 0) (subst (λ (n : ℕ). n ≤ longest) (sym (travelling-length cs)) h)))
-
--- ---- into a buffer
-
-pub placed-paste : (xs : List ℕ) (at : ℕ) (out : List ℕ) → placed xs at out ≡ paste out at xs (length xs)
-unfolding placed
-placed-paste xs at out = ap (λ (l : List ℕ). (take at out ++ l) ++ drop (at + length xs) out) (sym (take-length xs))
-
-pub placed-nothing : (at : ℕ) (out : List ℕ) → placed [] at out ≡ out
-placed-nothing at out = placed-paste [] at out ∙ sym (paste-zero out at [])
-
--- from the front on
-pub placed-front : (xs out : List ℕ) → placed xs 0 out ≡ laid xs out
-unfolding placed laid
-placed-front xs out = ap (λ (n : ℕ). xs ++ drop n out) (zero-add (length xs))
-
-pub fits-front : (xs out : List ℕ) → fitsAt xs 0 out ≡ leb (length xs) (length out)
-unfolding fitsAt
-fits-front xs out = ap (λ (n : ℕ). leb n (length out)) (zero-add (length xs))
-
--- a loop that copies xs into a buffer from a place on, and has copied k: one store more, and the end
-pub record Copied (xs out₀ : List ℕ) (at : ℕ) (out : List ℕ) (k : ℕ) : Type 0 where
-  pub in′ : k ≤ length xs
-  pub long : length out ≡ length out₀
-  pub so-far : out ≡ paste out₀ at xs k
-
-pub copy-starts : (xs out : List ℕ) (at : ℕ) → Copied xs out at out 0
-copy-starts xs out at = record { in′ = omega arith; long = refl; so-far = paste-zero out at xs }
-
-module _ (xs out₀ : List ℕ) (at : ℕ) (out : List ℕ) (k : ℕ) (c : Copied xs out₀ at out k) (fits : at + length xs ≤ length out₀) where
-  pub copy-more : k < length xs → Copied xs out₀ at (set out (at + k) (getD xs k 0)) (k + 1)
-  copy-more h = record {
-    in′ = omega arith;
-    long = length-set out (at + k) (getD xs k 0) ∙ c .long;
-    so-far =
-        ap (λ (d : List ℕ). set d (at + k) (getD xs k 0)) (c .so-far)
-        ∙ paste-suc out₀ at xs k 0 (omega arith) h
-        ∙ ap (paste out₀ at xs) (sym (add-one k));
-  }
-
-  pub copy-ends : length xs ≤ k → out ≡ placed xs at out₀
-  copy-ends h =
-      let a = c .in′ in
-      let e : k ≡ length xs = omega arith in
-      c .so-far ∙ ap (paste out₀ at xs) e ∙ sym (placed-paste xs at out₀)
-
--- what is placed at the front is what a call writes: where it fits, and where it does not
-pub wrote : (xs out : List ℕ) → fitsAt xs 0 out ≡ true → writes xs out ≡ record { outcome = gave (length xs); buffer = cond (fitsAt xs 0 out) (placed xs 0 out) out }
-unfolding writes
-wrote xs out e = rw (sym (fits-front xs out) ∙ e, e, placed-front xs out)
-
-pub wrote-nothing : (xs out : List ℕ) → fitsAt xs 0 out ≡ false → writes xs out ≡ record { outcome = refused 5; buffer = cond (fitsAt xs 0 out) (placed xs 0 out) out }
-unfolding writes
-wrote-nothing xs out e = rw (sym (fits-front xs out) ∙ e, e)
-
--- the same from any place on
-pub placed-call : (xs : List ℕ) (at : ℕ) (out : List ℕ) → fitsAt xs at out ≡ true → placeCall xs at out ≡ record { outcome = gave (length xs); buffer = placed xs at out }
-unfolding placeCall
-placed-call xs at out e = rw e
-
-pub unplaced-call : (xs : List ℕ) (at : ℕ) (out : List ℕ) → fitsAt xs at out ≡ false → placeCall xs at out ≡ refuses RoomTooShort out
-unfolding placeCall
-unplaced-call xs at out e = rw e
+    (omega (arith, laid-length (travelling cs) (replicate longestMessage 0) (subst (λ (n : ℕ). n ≤ longestMessage) (sym (travelling-length cs)) h)))
 
 -- the first so many, counted by themselves
 pub take-counted : (n : ℕ) (xs : List ℕ) → take (length (take n xs)) xs ≡ take n xs

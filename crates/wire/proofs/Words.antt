@@ -1,19 +1,19 @@
 -- The laws of parity, at all bytes at once: each is one test that antt computes at every number below 128 or 256.
--- And a test of each of a list, as of the words that may be lent. Assumes nothing.
-use mathlib.Core.Path.{_≡_, refl, sym, ap, _∙_, subst}
-use mathlib.Core.Bool.{Bool, true, false, _&&_, false≢true, and-assoc, and-true}
+-- And words that may be lent. Assumes nothing.
+use mathlib.Core.Path.{_≡_, refl, sym, ap}
+use mathlib.Core.Bool.{Bool, true, false, _&&_, false≢true}
 use mathlib.Core.List.{List, [], _∷_, _++_}
-use Prim.Native.Nat.{ℕ, zero, suc, _+_, _*_, _%_, _<_, _≤_}
+use Prim.Native.Nat.{ℕ, _+_, _*_, _%_, _<_, _≤_}
 use Prim.Native.Char.{code}
-use native.Mathlib.Numerals.{add-one}
 use native.Mathlib.Omega.{arith}
-use borrow.Author.Tests.{eqb-true, ltb-true, le-leb}
+use borrow.Author.Tests.{eqb-true, ltb-true, leb-true, le-leb}
 use lib.Count.{ones, onesIn}
 use lib.Dec.{ltb, leb, eqb}
-use lib.ListN.{length, getD, take, drop, set, replicate, drop-of-length-le, length-map}
-use lib.Seq.{drop-cons}
-use Rattle.refusal.proofs.Logic.{and-left, and-right, ands, and-both, choice, below, allBelow}
-use Rattle.wire.specs.Word.{evenParity, withParity, received, travelling, every, validWords}
+use lib.ListN.{length, length-map}
+use Rattle.refusal.proofs.Logic.{ands, and-left, and-right, choice, below, allBelow}
+use Rattle.refusal.specs.Lists.{every}
+use Rattle.refusal.proofs.Lists.{every-none, every-first, every-append}
+use Rattle.wire.specs.Word.{evenParity, withParity, received, travelling, validWords}
 use Rattle.wire.specs.declared.Received.{Received}
 use Rattle.wire.specs.declared.Received.the-variants.{Character, Nothing}
 
@@ -106,73 +106,6 @@ pub travelling-length : (cs : List ℕ) → length (travelling cs) ≡ length cs
 unfolding travelling
 travelling-length cs = length-map cs withParity
 
--- ---- a test of each
-
-pub every-none : (f : ℕ → Bool) → every f [] ≡ true
-unfolding every
-every-none f = refl
-
-pub every-first : (f : ℕ → Bool) (x : ℕ) (xs : List ℕ) → f x ≡ true → every f xs ≡ true → every f (x ∷ xs) ≡ true
-unfolding every
-every-first f x xs p q = and-both p q
-
-pub every-append : (f : ℕ → Bool) (xs ys : List ℕ) → every f xs ≡ true → every f ys ≡ true → every f (xs ++ ys) ≡ true
-unfolding every
-every-append f [] ys p q = q
-every-append f (x ∷ xs) ys p q = and-both (and-left (f x) (every f xs) p) (every-append f xs ys (and-right (f x) (every f xs) p) q)
-
--- one more of the first, and one less of the rest
-pub every-set : (f : ℕ → Bool) (xs : List ℕ) (n x : ℕ) → every f (take n xs) ≡ true → f x ≡ true → every f (take (suc n) (set xs n x)) ≡ true
-unfolding every
-every-set f [] n x e h = refl
-every-set f (y ∷ ys) zero x e h = rw h
-every-set f (y ∷ ys) (suc n) x e h =
-    and-both (and-left (f y) (every f (take n ys)) e) (every-set f ys n x (and-right (f y) (every f (take n ys)) e) h)
-
-pub every-drop : (f : ℕ → Bool) (xs : List ℕ) (n : ℕ) → every f (drop n xs) ≡ true → every f (drop (suc n) xs) ≡ true
-unfolding every
-every-drop f [] n e = refl
-every-drop f (y ∷ ys) zero e = and-right (f y) (every f ys) e
-every-drop f (y ∷ ys) (suc n) e = every-drop f ys n e
-
--- equal characters, from an index on
-pub every-replicate : (f : ℕ → Bool) (x : ℕ) → f x ≡ true → (n k : ℕ) → every f (drop n (replicate k x)) ≡ true
-unfolding every
-every-replicate f x e zero zero = refl
-every-replicate f x e zero (suc k) = and-both e (every-replicate f x e zero k)
-every-replicate f x e (suc n) zero = refl
-every-replicate f x e (suc n) (suc k) = every-replicate f x e n k
-
--- ---- a loop that tests each
-
--- it has tested i of them, and `so` is whether all of those passed
-pub record Tested (f : ℕ → Bool) (xs : List ℕ) (so : Bool) (i : ℕ) : Type 0 where
-  pub in′ : i ≤ length xs
-  pub rest : every f xs ≡ so && every f (drop i xs)
-
-pub test-starts : (f : ℕ → Bool) (xs : List ℕ) → Tested f xs true 0
-test-starts f xs = record { in′ = omega arith; rest = refl }
-
-module _ (f : ℕ → Bool) (xs : List ℕ) {so : Bool} {i : ℕ} (t : Tested f xs so i) where
-  pub test-more : i < length xs → Tested f xs (so && f (getD xs i 0)) (i + 1)
-  unfolding every
-  test-more h = record {
-    in′ = omega arith;
-    rest = t .rest ∙ rw (add-one, drop-cons xs i 0 h) (sym (and-assoc so (f (getD xs i 0)) (every f (drop (suc i) xs))));
-  }
-
-  pub test-ends : length xs ≤ i → so ≡ every f xs
-  unfolding every
-  test-ends h = sym (t .rest ∙ rw (drop-of-length-le xs h) (and-true so))
-
--- a loop that stops at the first that fails
-module _ (f : ℕ → Bool) (xs : List ℕ) {i : ℕ} (t : Tested f xs true i) (h : i < length xs) where
-  pub test-passes : f (getD xs i 0) ≡ true → Tested f xs true (i + 1)
-  test-passes e = subst (λ (b : Bool). Tested f xs b (i + 1)) e (test-more f xs t h)
-
-  pub test-fails : f (getD xs i 0) ≡ false → false ≡ every f xs
-  test-fails e = sym (test-more f xs t h .rest ∙ rw e)
-
 -- ---- words that may be lent
 
 pub no-words-valid : validWords [] ≡ true
@@ -182,6 +115,10 @@ no-words-valid = every-none (λ (w : ℕ). leb w 256)
 pub word-valid : (w : ℕ) → w ≤ 256 → validWords (w ∷ []) ≡ true
 unfolding validWords
 word-valid w h = every-first (λ (w : ℕ). leb w 256) w [] (le-leb w 256 h) (every-none (λ (w : ℕ). leb w 256))
+
+pub valid-first : (w : ℕ) (ws : List ℕ) → validWords (w ∷ ws) ≡ true → (w ≤ 256) × (validWords ws ≡ true)
+unfolding validWords every
+valid-first w ws e = (leb-true w 256 (and-left (leb w 256) (validWords ws) e), and-right (leb w 256) (validWords ws) e)
 
 pub append-valid : (ws vs : List ℕ) → validWords ws ≡ true → validWords vs ≡ true → validWords (ws ++ vs) ≡ true
 unfolding validWords

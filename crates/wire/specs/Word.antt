@@ -1,10 +1,11 @@
 -- Words and parity. A recording is a list of words: 0 to 255 is a byte on the line, 256 a silence.
 -- `ones` is the library's count of the ones in a number, which is what `count_ones` gives.
-use mathlib.Core.Bool.{Bool, true, cond, _&&_}
-use mathlib.Core.List.{List, [], _∷_, map}
+use mathlib.Core.Bool.{Bool, cond, _&&_}
+use mathlib.Core.List.{List, map}
 use Prim.Native.Nat.{ℕ, _+_, _*_, _%_}
 use lib.Count.{ones}
 use lib.Dec.{ltb, leb, eqb}
+use Rattle.refusal.specs.Lists.{every}
 use Rattle.wire.specs.declared.Received.{Received}
 use Rattle.wire.specs.declared.Received.the-variants.{Character, Nothing}
 
@@ -23,11 +24,6 @@ received w = cond (ltb w 256 && evenParity w) (Character (w % 128)) Nothing
 -- characters as they travel
 unfoldable pub travelling : List ℕ → List ℕ
 travelling cs = map withParity cs
-
--- each passes the test
-unfoldable pub every : (ℕ → Bool) → List ℕ → Bool
-every f [] = true
-every f (x ∷ xs) = f x && every f xs
 
 -- document 01, number 4: no word lent is above 256
 unfoldable pub validWords : List ℕ → Bool

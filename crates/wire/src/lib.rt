@@ -2,11 +2,12 @@
 ghost use mathlib.Core.Path.{_≡_};
 ghost use Prim.Native.Nat.{_+_, _≤_};
 ghost use lib.ListN.{length};
-ghost use mathlib.Core.Bool.{cond};
-ghost use Rattle.refusal.specs.Refusal.{outcomeOf};
-ghost use Rattle.refusal.specs.Call.{writes};
+ghost use mathlib.Core.List.{[]};
+ghost use Rattle.refusal.specs.Buffer.{placed};
+ghost use Rattle.refusal.specs.Call.{callOf, writes, placeCall};
 ghost use Rattle.wire.specs.Word.{evenParity, withParity, received, validWords};
-ghost use Rattle.wire.specs.Line.{empty, put, puts, bytesOf, placed, fitsAt};
+ghost use Rattle.wire.specs.Bytes.{wordOf, longOf};
+ghost use Rattle.wire.specs.Line.{empty, put, puts, bytesOf};
 use refusal::Refusal;
 use refusal::Written;
 
@@ -16,12 +17,12 @@ pub enum Received {
     Nothing,
 }
 
-// The longest message and the longest reply have this many bytes, `*` included.
-pub const LONGEST: usize = 11;
+// The longest message has this many bytes, `*` included.
+pub const LONGEST_MESSAGE: usize = 11;
 
 // Bytes as they travel, 0 behind the last.
 pub struct Line {
-    pub bytes: [u8; LONGEST],
+    pub bytes: [u8; LONGEST_MESSAGE],
     pub len: usize,
 }
 
@@ -39,25 +40,6 @@ pub fn with_parity(character: u8) -> u8
     let low = character % 128;
     let odd = u8::count_ones(low) % 2;
     low + 128 * (odd as u8)
-}
-
-// The same, with the ten digits by a table.
-pub fn digit_with_parity(character: u8) -> u8
-    ensures { λ r. ⌜ r ≡ withParity character ⌝ }
-{
-    match character {
-        48 => 48,
-        49 => 177,
-        50 => 178,
-        51 => 51,
-        52 => 180,
-        53 => 53,
-        54 => 54,
-        55 => 183,
-        56 => 184,
-        57 => 57,
-        _ => with_parity(character),
-    }
 }
 
 // The character that a word carries: none for a silence and for a byte in bad parity.
@@ -92,7 +74,7 @@ impl Line {
     pub fn new() -> Line
         ensures { λ r. ⌜ r ≡ empty ⌝ }
     {
-        let bytes = [0u8; LONGEST];
+        let bytes = [0u8; LONGEST_MESSAGE];
         Line { bytes, len: 0 }
     }
 
@@ -101,7 +83,7 @@ impl Line {
         ensures { λ r. ⌜ r ≡ put self character ⌝ }
     {
         let len = self.len;
-        if LONGEST <= len {
+        if LONGEST_MESSAGE <= len {
             return self;
         }
         let mut bytes = self.bytes;
@@ -109,6 +91,7 @@ impl Line {
         let next = len + 1;
         Line { bytes, len: next }
     }
+
     // These characters more, one after the other.
     pub fn put_all(self, characters: &[u8]) -> Line
         ensures { λ r. ⌜ r ≡ puts self (now (characters .entry)) ⌝ }
@@ -127,37 +110,35 @@ impl Line {
         ensures { λ r. ⌜ r ≡ length (bytesOf self) ⌝ }
     {
         let len = self.len;
-        if len < LONGEST { len } else { LONGEST }
+        if len < LONGEST_MESSAGE {
+            len
+        } else {
+            LONGEST_MESSAGE
+        }
     }
 
     // The bytes of the line at the front of a buffer.
     pub fn write(self, out: &mut [u8]) -> Written
-        ensures answers { λ r. ⌜ outcomeOf r ≡ writes (bytesOf self) (now (out .entry)) .outcome ⌝ }
-        ensures leaves { λ r. ⌜ now (out .exit) ≡ writes (bytesOf self) (now (out .entry)) .buffer ⌝ }
+        ensures { λ r. ⌜ callOf r (now (out .exit)) ≡ writes [] (bytesOf self) (now (out .entry)) ⌝ }
     {
         let bytes = self.bytes;
         let end = self.count();
-        if place(&bytes[..end], out, 0) {
-            Written::Wrote(end)
-        } else {
-            Written::Refused(Refusal::RoomTooShort)
-        }
+        place(&bytes[..end], out, 0)
     }
 }
 
-// All of the bytes into a buffer from a place on, where they fit; otherwise nothing is written.
-pub fn place(bytes: &[u8], out: &mut [u8], at: usize) -> bool
-    ensures fits { λ r. ⌜ r ≡ fitsAt (now (bytes .entry)) at (now (out .entry)) ⌝ }
-    ensures leaves { λ r. ⌜ now (out .exit) ≡ cond (fitsAt (now (bytes .entry)) at (now (out .entry))) (placed (now (bytes .entry)) at (now (out .entry))) (now (out .entry)) ⌝ }
+// All of the bytes into a buffer from a place on, where they fit.
+pub fn place(bytes: &[u8], out: &mut [u8], at: usize) -> Written
+    ensures { λ r. ⌜ callOf r (now (out .exit)) ≡ placeCall (now (bytes .entry)) at (now (out .entry)) ⌝ }
 {
     if out.len() < at {
-        return false;
+        return Written::Refused(Refusal::RoomTooShort);
     }
     if out.len() - at < bytes.len() {
-        return false;
+        return Written::Refused(Refusal::RoomTooShort);
     }
     copy(bytes, out, at);
-    true
+    Written::Wrote(bytes.len())
 }
 
 fn copy(bytes: &[u8], out: &mut [u8], at: usize)
@@ -169,4 +150,20 @@ fn copy(bytes: &[u8], out: &mut [u8], at: usize)
         out[at + k] = bytes[k];
         k += 1;
     }
+}
+
+// Two bytes are a word, low byte first.
+pub fn word_of(low: u8, high: u8) -> u16
+    ensures { λ r. ⌜ r ≡ wordOf low high ⌝ }
+{
+    low as u16 + 256 * high as u16
+}
+
+// Four bytes are a long word, low byte first.
+pub fn long_of(a: u8, b: u8, c: u8, d: u8) -> u32
+    ensures { λ r. ⌜ r ≡ longOf a b c d ⌝ }
+{
+    let low = word_of(a, b);
+    let high = word_of(c, d);
+    low as u32 + 65536 * high as u32
 }

@@ -2,10 +2,10 @@
 
 use super::{identifiers, value, Rng, Row, World};
 
-/// Makes a card's row unsound in itself, whatever its offer and the sheets.
+/// Makes a card's row unsound before its offer and the sheets are looked at.
 pub fn break_card(rng: &mut Rng, card: &mut Vec<i32>) {
     let length = card[2] as usize;
-    match rng.below(14) {
+    match rng.below(10) {
         0 => card.truncate(rng.below(16)),
         1 => card.push(rng.wild()),
         2 => card[0] = rng.pick(&[0, 75, 77, 0xCC, 0xD2, 76 + 256, -76, i32::MIN, i32::MAX]),
@@ -23,15 +23,22 @@ pub fn break_card(rng: &mut Rng, card: &mut Vec<i32>) {
         // A count that the characters don't bear out.
         8 if length > 1 && card[2 + length] != 0 => card[2] -= 1,
         8 | 9 if length == 0 => card[2] = rng.within(1, 10),
-        10 => card[13] = rng.pick(&[2, -1, 256, 257, i32::MIN, i32::MAX]),
-        11 if card[13] == 0 => card[14] = rng.pick(&[1, 109, -1, 256, i32::MIN]),
-        12 if card[13] == 0 => card[15] = rng.pick(&[1, -1, 5, i32::MIN]),
-        // An identifier that isn't a byte.
-        13 => {
-            card[13] = 1;
-            card[14] = rng.pick(&[-1, 256, 256 + 109, i32::MIN, i32::MAX]);
-        }
         _ => card[0] = 0,
+    }
+}
+
+/// Three numbers that are no offer, or one for identifier 0, near those of a sound one.
+fn no_offer(rng: &mut Rng, identifier: i32, value: i32) -> [i32; 3] {
+    match rng.below(5) {
+        0 => {
+            let mark = rng.pick(&[2, -1, 256, 257, i32::MIN, i32::MAX]);
+            rng.pick(&[[mark, identifier, value], [mark, 0, 0]])
+        }
+        1 => [0, rng.pick(&[identifier, 1, -1, 256, 300, i32::MIN]), rng.pick(&[0, value])],
+        2 => [0, 0, rng.pick(&[1, -1, 5, i32::MIN])],
+        // An identifier that isn't a byte.
+        3 => [1, rng.pick(&[-1, 256, 300, 256 + identifier, i32::MIN, i32::MAX]), value],
+        _ => [1, 0, rng.pick(&[0, value])],
     }
 }
 
@@ -41,7 +48,7 @@ pub fn break_offer(rng: &mut Rng, world: &mut World) {
         (0..=255u8).filter(|&code| world.rows.iter().all(|row| row[0] != i32::from(code))).collect();
     let read_only: Vec<Row> = world.rows.iter().copied().filter(|row| row[1] == 1).collect();
     let written: Vec<Row> = world.rows.iter().copied().filter(|row| row[1] != 1).collect();
-    let wrong = match rng.below(5) {
+    let wrong = match rng.below(8) {
         0 if !read_only.is_empty() => {
             let row = rng.pick(&read_only);
             [1, row[0], value(rng, &row)]
@@ -59,7 +66,12 @@ pub fn break_offer(rng: &mut Rng, world: &mut World) {
             let row = rng.pick(&rows);
             [1, row[0], row[4] + rng.within(1, row[3] - 1)]
         }
-        _ => [1, i32::from(rng.pick(&absent)), 0],
+        4 => [1, i32::from(rng.pick(&absent)), 0],
+        _ => {
+            let row = if written.is_empty() { row_of(b'm') } else { rng.pick(&written) };
+            let value = value(rng, &row);
+            no_offer(rng, row[0], value)
+        }
     };
     world.card[13..].copy_from_slice(&wrong);
 }

@@ -15,6 +15,13 @@ pub const ANSWER: usize = 7;
 /// What the boundary's reader gives back when it isn't refused: the count of numbers written.
 pub const READ: i64 = ANSWER as i64;
 
+/// What numbers that are no offer stand for: one that no sheet has a row for, so that it is judged with
+/// the offers.
+const NO_OFFER: Offer = Offer { identifier: 0, value: 0 };
+
+/// Where the numbers begin that a word can change: the open message and the offer.
+const CHANGED: usize = 2;
+
 const fn refused(refusal: Refusal) -> i64 {
     -(refusal.number() as i64)
 }
@@ -23,8 +30,8 @@ fn counted(result: Result<usize, Refusal>) -> i64 {
     result.map_or_else(refused, |count| count as i64)
 }
 
-/// The card that a row of sixteen is. What it can't be as a card is number 1; whether the card is
-/// sound is asked later.
+/// The card that a row of sixteen is. `None`, where its length or its numbers 0 to 12 are no card's, is
+/// number 1 before the sheets; whether the card is sound is asked later, and of its offer after the sheets.
 pub fn card_of(row: &[i32]) -> Option<Card> {
     let row: &[i32; CARD] = row.try_into().ok()?;
     let code = |number: i32| u8::try_from(number).ok();
@@ -34,8 +41,8 @@ pub fn card_of(row: &[i32]) -> Option<Card> {
     }
     let offer = match row[13..] {
         [0, 0, 0] => None,
-        [1, identifier, value] => Some(Offer { identifier: code(identifier)?, value }),
-        _ => return None,
+        [1, identifier @ 0..=255, value] => Some(Offer { identifier: identifier as u8, value }),
+        _ => Some(NO_OFFER),
     };
     Some(Card {
         letter: code(row[0])?,
@@ -60,6 +67,11 @@ pub fn row_of(card: &Card) -> [i32; CARD] {
     row
 }
 
+/// A served call writes back what a word can change and nothing else.
+fn put_back(row: &mut [i32], card: &Card) {
+    row[CHANGED..CARD].copy_from_slice(&row_of(card)[CHANGED..]);
+}
+
 /// Minus the number, or the count of bytes; 0 is silence.
 pub fn step(
     card: &mut [i32],
@@ -74,7 +86,7 @@ pub fn step(
     };
     let result = card::step(&mut inner, bench, maker, values, word, out);
     if result.is_ok() {
-        card.copy_from_slice(&row_of(&inner));
+        put_back(card, &inner);
     }
     counted(result)
 }
@@ -101,7 +113,7 @@ pub fn run(
     };
     match card::run(&mut inner, bench, maker, values, words, out) {
         Ok(ran) => {
-            card.copy_from_slice(&row_of(&inner));
+            put_back(card, &inner);
             *counts = [ran.taken as u64, ran.written as u64];
             0
         }

@@ -8,10 +8,10 @@
 //! cargo test --release --test differential                        # a fixed seed and a fresh one
 //! KAV_SEED=12345 cargo test --release --test differential         # this seed alone
 //! KAV_CASES=10 ...                                                # ten times as many random cases
+//! KAV_PART=100 ...                                                # the first hundredth of each group
 //! KAV_TRACE=1 ...          # one thread; target/last-case.txt has the case before a crash
 //! KAV_REPLAY='read bytes=204,55 room=7' cargo test --release --test differential
 //! KAV_REPLAY=@file ...                                            # a line kept in a file
-//! cargo test --release --features stand-in --test differential -- --defects
 //! ```
 
 #[cfg(kav_linked)]

@@ -132,8 +132,8 @@ fn replay(text: &str) -> ExitCode {
     }
 }
 
-/// A part of all groups with one seed. Gives the count, or what was found.
-fn all(seed: u64, times: u64, part: u64, fixed: bool, traced: bool) -> Result<u64, (u64, Found)> {
+/// All groups with one seed, or of each the first of so many parts. Gives the count, or what was found.
+fn all(seed: u64, times: u64, part: u64, fixed: bool, traced: bool) -> Result<u64, Found> {
     let mut total = 0;
     for (at, group) in GROUPS.iter().enumerate() {
         if !fixed && !group.random {
@@ -144,11 +144,9 @@ fn all(seed: u64, times: u64, part: u64, fixed: bool, traced: bool) -> Result<u6
         let (count, found) = run_group(at, seed, numbers, traced);
         total += count;
         if let Some(found) = found {
-            return Err((total, found));
+            return Err(found);
         }
-        if part == 1 {
-            println!("  {:38} {count:>9} cases {:>7.2} s", group.name, start.elapsed().as_secs_f64());
-        }
+        println!("  {:38} {count:>9} cases {:>7.2} s", group.name, start.elapsed().as_secs_f64());
     }
     Ok(total)
 }
@@ -160,20 +158,18 @@ pub(crate) fn main() -> ExitCode {
     if std::env::args().any(|arg| arg == "--list") {
         return ExitCode::SUCCESS;
     }
-    if std::env::args().any(|arg| arg == "--defects") {
-        return defects();
-    }
     let traced = std::env::var_os("KAV_TRACE").is_some();
     let times = number_of("KAV_CASES").unwrap_or(1);
+    let part = number_of("KAV_PART").unwrap_or(1).max(1);
     let fresh = || SystemTime::now().duration_since(UNIX_EPOCH).map_or(1, |time| time.as_nanos() as u64);
     let seeds = number_of("KAV_SEED").map_or_else(|| vec![FIXED_SEED, fresh()], |seed| vec![seed]);
     let start = Instant::now();
     let mut total = 0;
     for (turn, &seed) in seeds.iter().enumerate() {
         println!("seed {seed} (KAV_SEED={seed} repeats it)");
-        match all(seed, times, 1, turn == 0, traced) {
+        match all(seed, times, part, turn == 0, traced) {
             Ok(count) => total += count,
-            Err((_, found)) => {
+            Err(found) => {
                 report(seed, found);
                 return ExitCode::FAILURE;
             }
@@ -181,42 +177,4 @@ pub(crate) fn main() -> ExitCode {
     }
     println!("differential: {total} cases agree, {:.1} s", start.elapsed().as_secs_f64());
     ExitCode::SUCCESS
-}
-
-#[cfg(not(feature = "stand-in"))]
-fn defects() -> ExitCode {
-    println!("defects are seeded in the stand-in: --features stand-in");
-    ExitCode::FAILURE
-}
-
-/// Seeds each defect in the stand-in and sees whether the tests notice.
-#[cfg(feature = "stand-in")]
-fn defects() -> ExitCode {
-    use kavtziron_host::standin::{seed_defect, DEFECTS};
-    let mut missed = 0;
-    for defect in DEFECTS {
-        seed_defect(Some(defect));
-        let start = Instant::now();
-        // A tenth is enough for all but the rarest.
-        let result = all(FIXED_SEED, 1, 100, true, false).and_then(|_| all(FIXED_SEED, 1, 10, true, false));
-        match result {
-            Ok(count) => {
-                missed += 1;
-                println!("MISSED  {defect} ({count} cases)");
-            }
-            Err((count, found)) => println!(
-                "caught  {defect}: {} after {count} cases, {:.2} s: {}",
-                found.group,
-                start.elapsed().as_secs_f64(),
-                found.failure.what
-            ),
-        }
-    }
-    seed_defect(None);
-    println!("{} of {} defects caught", DEFECTS.len() - missed, DEFECTS.len());
-    if missed == 0 {
-        ExitCode::SUCCESS
-    } else {
-        ExitCode::FAILURE
-    }
 }

@@ -1,7 +1,6 @@
 -- `abi::answer_row` meets its contract: each byte is widened as it is. Assumes nothing.
 use Rattle.number.proofs.Signed.{rd-is}
-use mir.Syntax.{w32}
-use mir.Val.{SFits}
+use Rattle.number.specs.declared.Decimal.{Decimal}
 use Rattle.abi.specs.Rows.{answerRow}
 use Rattle.abi.proofs.Laws.{told}
 use borrow.Author.Needs.{needs}
@@ -48,9 +47,9 @@ returns c =
 returns-2 : tie.Need-returns-2
 unfolding answerRow
 returns-2 c =
-    let o = c .before .before .content .given in
-    let d = c .before .before .before .before in
-    let f : SFits w32 (o .0 .0) = record { sfits = c .before .known-told .given .0 .1 } in
+    let o = c .before .before .before .content .given in
+    let d = c .before .before .before .before .before in
+    let x : Decimal = o .0 .0 in
     simp (
       told _ _ (d .before .before .before .before .wide .ok) (d .before .before .before .before .wide .ensures),
       told _ _ (d .before .before .before .wide2 .ok) (d .before .before .before .wide2 .ensures),
@@ -58,7 +57,7 @@ returns-2 c =
       told _ _ (d .wide4 .ok) (d .wide4 .ensures),
       d .before .mark-of .ensures,
       told _ _ (c .wide5 .ok) (c .wide5 .ensures),
-      rd-is f,
+      rd-is {z = x .number} (record { sfits = c .before .struct-told .given .0 .1 }),
       o .1,
     )
 

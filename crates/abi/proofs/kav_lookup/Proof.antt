@@ -4,20 +4,21 @@ use mathlib.Core.List.{List}
 use lib.IntN.{ℤ}
 use lib.ListN.{length}
 use Rattle.sheet.specs.Lookup.{shown}
-use Rattle.abi.specs.Rows.{Filled, inFront}
+use Rattle.refusal.specs.Buffer.{laid}
+use Rattle.abi.specs.Result.{filled}
 use Rattle.abi.proofs.Laws.{wide-ok, lookup-short, lookup-none, lookup-row}
 use borrow.Author.Needs.{needs}
 use Rattle.abi.proofs.kav_lookup.Statement.{statement}
 use Rattle.abi.proofs.kav_lookup.Tie as tie
 
-minus-requires : tie.Need-minus-requires
-minus-requires c κs = search needs
+minus-number-requires : tie.Need-minus-number-requires
+minus-number-requires c κs = search needs
 
 returns : tie.Need-returns
 returns c =
     let a = c .before .before .args in
     let e = lookup-short (shown (a .bench .now) (a .maker .now) (a .identifier)) (a .row .now) (c .before .if1 .taken) in
-    (wide-ok (c .minus .result) (c .minus .ok) ∙ c .minus .ensures ∙ sym (ap (λ (f : Filled). f .result) e), sym (ap (λ (f : Filled). f .row) e))
+    ap (λ (z : ℤ). filled z (a .row .now)) (wide-ok (c .minus-number .result) (c .minus-number .ok) ∙ c .minus-number .ensures) ∙ sym e
 
 lookup-requires : tie.Need-lookup-requires
 lookup-requires c κs = search needs
@@ -27,7 +28,7 @@ returns-2 c =
     let k = c .before in
     let a = k .before .before .args in
     let e = lookup-none (shown (a .bench .now) (a .maker .now) (a .identifier)) (a .row .now) (k .before .if1 .left) (λ h. c .if2 .taken (ap length (k .lookup .ensures .0) ∙ h)) in
-    (sym (ap (λ (f : Filled). f .result) e), sym (ap (λ (f : Filled). f .row) e))
+    sym e
 
 copy-requires : tie.Need-copy-requires
 copy-requires c κs = search needs
@@ -41,9 +42,9 @@ returns-3 c =
     let k = n .before in
     let a = k .before .before .args in
     let e = lookup-row (shown (a .bench .now) (a .maker .now) (a .identifier)) (a .row .now) (k .before .if1 .left) (sym (ap length (k .lookup .ensures .0)) ∙ n .if2 .left) in
-    (sym (ap (λ (f : Filled). f .result) e), c .before .copy .ensures ∙ ap (λ (l : List ℤ). inFront l (a .row .now)) (k .lookup .ensures .0) ∙ sym (ap (λ (f : Filled). f .row) e))
+    ap (filled _) (c .before .copy .ensures ∙ ap (λ (l : List ℤ). laid l (a .row .now)) (k .lookup .ensures .0)) ∙ sym e
 
 pub kav-lookup-spec : {M : Type 1} → statement M
 kav-lookup-spec =
     tie.close
-    (tie.spec minus-requires returns lookup-requires returns-2 copy-requires same-length returns-3)
+    (tie.spec minus-number-requires returns lookup-requires returns-2 copy-requires same-length returns-3)

@@ -1,18 +1,13 @@
 -- `abi::kav_step` meets its contract: the row is a card or not, and the word's call is refused or served. Assumes nothing.
-use mathlib.Core.Path.{_≡_, sym, ap, _∙_}
-use native.Mathlib.Omega.{arith}
+use mathlib.Core.Path.{_≡_, sym, ap, ap₂, _∙_}
 use mathlib.Core.Bool.{true}
 use mathlib.Core.List.{List}
 use borrow.Author.Tests.{not-true, not-false}
-use Prim.Native.Nat.{_≤_}
 use lib.IntN.{ℤ}
-use lib.ListN.{length}
-use Rattle.abi.specs.Rows.{inFront}
-use Rattle.abi.specs.Card.{isRow, rowOfCard}
-use Rattle.refusal.specs.Refusal.{outcomeOf}
-use Rattle.abi.specs.Calls.{Stepped}
-use Rattle.abi.proofs.Laws.{wide-ok, is-row-long, row-long}
-use Rattle.abi.proofs.Served.{step-not, step-kept, step-refused, step-served}
+use Rattle.row.specs.Row.{isRow}
+use Rattle.abi.specs.Calls.{oneWord}
+use Rattle.abi.proofs.Laws.{wide-ok}
+use Rattle.abi.proofs.Served.{step-not, step-refused, step-served}
 use borrow.Author.Needs.{needs}
 use Rattle.abi.proofs.kav_step.Statement.{statement}
 use Rattle.abi.proofs.kav_step.Tie as tie
@@ -24,8 +19,8 @@ is n = sym (n .before .is-row .ensures) ∙ not-false _ (n .if1 .left)
 is-row-requires : tie.Need-is-row-requires
 is-row-requires c κs = search needs
 
-minus-requires : tie.Need-minus-requires
-minus-requires c κs = search needs
+minus-number-requires : tie.Need-minus-number-requires
+minus-number-requires c κs = search needs
 
 same-length : tie.Need-same-length
 same-length c = search needs
@@ -34,12 +29,8 @@ returns : tie.Need-returns
 returns c =
     let k = c .before .before in
     let a = k .before .before .before .args in
-    let e = step-not (a .card .now) (a .bench .now) (a .maker .now) (a .values .now) (a .word) (a .out .now) (sym (k .is-row .ensures) ∙ not-true _ (c .before .if1 .taken)) in (
-      wide-ok (c .minus .result) (c .minus .ok) ∙ c .minus .ensures ∙ sym (ap (λ (s : Stepped). s .result) e),
-      sym (ap (λ (s : Stepped). s .row) e),
-      sym (ap (λ (s : Stepped). s .values) e),
-      sym (ap (λ (s : Stepped). s .buffer) e),
-    )
+    ap (λ (z : ℤ). oneWord z (a .card .now) (a .values .now) (a .out .now)) (wide-ok (c .minus-number .result) (c .minus-number .ok) ∙ c .minus-number .ensures)
+    ∙ step-not (a .card .now) (a .bench .now) (a .maker .now) (a .values .now) (a .word) (a .out .now) (sym (k .is-row .ensures) ∙ not-true _ (c .before .if1 .taken))
 
 card-of-requires : tie.Need-card-of-requires
 card-of-requires c κs = search needs
@@ -50,31 +41,17 @@ step-requires c κs = search needs
 enum-known-answer : tie.Need-enum-known-answer
 enum-known-answer c = search needs
 
-minus-requires-2 : tie.Need-minus-requires-2
-minus-requires-2 c κs = search needs
+minus-number-requires-2 : tie.Need-minus-number-requires-2
+minus-number-requires-2 c κs = search needs
 
 enum-known-answer-2 : tie.Need-enum-known-answer-2
 enum-known-answer-2 c = search needs
 
-row-of-requires : tie.Need-row-of-requires
-row-of-requires c κs = search needs
+store-requires : tie.Need-store-requires
+store-requires c κs = search needs
 
-slice-aggregate-copy : tie.Need-slice-aggregate-copy
-slice-aggregate-copy c = search needs
-
-copy-requires : tie.Need-copy-requires
-copy-requires c κs =
-    let r = c .before .before in
-    let d = r .before .before .before .before .before .before .before .before .before .before .before in
-    let n = d .before .before in
-    let a = n .before .before .before .before .args in
-    let l : length (r .row-of .result) ≡ 16 = ap length (r .row-of .ensures) ∙ row-long _ in
-    let m : length (a .card .now) ≡ 16 = is-row-long (a .card .now) (is n) in
-    let h : length (r .row-of .result) ≤ length (a .card .now) = omega arith in
-    h
-
-counted-requires : tie.Need-counted-requires
-counted-requires c κs = search needs
+count-result-requires : tie.Need-count-result-requires
+count-result-requires c κs = search needs
 
 same-length-2 : tie.Need-same-length-2
 same-length-2 c = search needs
@@ -92,14 +69,9 @@ returns-2 c =
     let d = t .before .before .before in
     let n = d .before .before in
     let a = n .before .before .before .before .args in
-    let o = sym (t .step .ensures .1) ∙ ap outcomeOf (w .answer .given .1) in
-    let e = step-refused (a .card .now) (a .bench .now) (a .maker .now) (a .values .now) (a .word) (a .out .now) (d .card-of .result) (is n) (d .card-of .ensures) _ o in
-    let k = step-kept (a .card .now) (a .bench .now) (a .maker .now) (a .values .now) (a .word) (a .out .now) (d .card-of .result) (is n) (d .card-of .ensures) _ o in (
-      wide-ok (c .minus2 .result) (c .minus2 .ok) ∙ c .minus2 .ensures ∙ sym (ap (λ (s : Stepped). s .result) e),
-      sym (ap (λ (s : Stepped). s .row) e),
-      t .step .ensures .2 ∙ k .0 ∙ sym (ap (λ (s : Stepped). s .values) e),
-      t .step .ensures .3 ∙ k .1 ∙ sym (ap (λ (s : Stepped). s .buffer) e),
-    )
+    let v = t .step .last .1 .1 .1 in
+    ap (λ (z : ℤ). oneWord z (a .card .now) (v .0) (v .1 .1 .0)) (wide-ok (c .minus-number2 .result) (c .minus-number2 .ok) ∙ c .minus-number2 .ensures)
+    ∙ step-refused (a .card .now) (a .bench .now) (a .maker .now) (a .values .now) (a .word) (a .out .now) (d .card-of .result) (is n) (d .card-of .ensures) (t .step .result) (v .0) (v .1 .1 .0) (t .step .ensures) _ (w .answer .given .1)
 
 same-length-5 : tie.Need-same-length-5
 same-length-5 c = search needs
@@ -113,37 +85,30 @@ same-length-7 c = search needs
 returns-3 : tie.Need-returns-3
 returns-3 c =
     let p = c .before .before in
-    let r = p .before .before .before in
-    let w = r .before .before .before in
+    let w = p .before .before .before .before in
     let t = w .before .before .before .before .before in
     let d = t .before .before .before in
     let n = d .before .before in
     let a = n .before .before .before .before .args in
-    let o = sym (t .step .ensures .1) ∙ ap outcomeOf (w .answer2 .given .1) in
-    let e = step-served (a .card .now) (a .bench .now) (a .maker .now) (a .values .now) (a .word) (a .out .now) (d .card-of .result) (is n) (d .card-of .ensures) _ o in (
-      wide-ok (c .counted .result) (c .counted .ok) ∙ c .counted .ensures ∙ sym (ap (λ (s : Stepped). s .result) e),
-      p .copy .ensures ∙ ap (λ (l : List ℤ). inFront l (a .card .now)) (r .row-of .ensures ∙ ap rowOfCard (t .step .ensures .0)) ∙ sym (ap (λ (s : Stepped). s .row) e),
-      t .step .ensures .2 ∙ sym (ap (λ (s : Stepped). s .values) e),
-      t .step .ensures .3 ∙ sym (ap (λ (s : Stepped). s .buffer) e),
-    )
+    let v = t .step .last .1 .1 .1 in
+    ap₂ (λ (z : ℤ) (l : List ℤ). oneWord z l (v .0) (v .1 .1 .0)) (wide-ok (c .count-result .result) (c .count-result .ok) ∙ c .count-result .ensures) (p .store .ensures)
+    ∙ step-served (a .card .now) (a .bench .now) (a .maker .now) (a .values .now) (a .word) (a .out .now) (d .card-of .result) (is n) (d .card-of .ensures) (t .step .result) (v .0) (v .1 .1 .0) (t .step .ensures) _ (w .answer2 .given .1)
 
 pub kav-step-spec : {M : Type 1} → statement M
 kav-step-spec =
     tie.close
     (tie.spec
     is-row-requires
-    minus-requires
+    minus-number-requires
     same-length
     returns
     card-of-requires
     step-requires
     enum-known-answer
-    minus-requires-2
+    minus-number-requires-2
     enum-known-answer-2
-    row-of-requires
-    slice-aggregate-copy
-    copy-requires
-    counted-requires
+    store-requires
+    count-result-requires
     same-length-2
     same-length-3
     same-length-4

@@ -1,8 +1,8 @@
 -- `act::declines` meets its contract: it says what is shown. Assumes nothing.
-use Rattle.reply.specs.declared.Mark.the-variants.{Refused}
+use Rattle.reply.specs.declared.Mark.the-variants.{Declined}
 use Rattle.act.specs.Act.{says, shownBy, declines}
-use mathlib.Core.Path.{_≡_, sym, ap, ap₂, _∙_}
-use Rattle.number.proofs.Signed.{rd-is, rd-ok}
+use mathlib.Core.Path.{ap, _∙_}
+use Rattle.number.proofs.Signed.{rd-is}
 use borrow.Author.Needs.{needs}
 use Rattle.act.proofs.declines.Statement.{statement}
 use Rattle.act.proofs.declines.Tie as tie
@@ -17,7 +17,7 @@ returns : tie.Need-returns
 unfolding declines
 returns c =
     let s = c .before .before in
-    c .says .ensures ∙ ap (says (s .args .message) Refused) (c .before .shown-by .ensures ∙ ap (shownBy (s .args .entry)) (rd-is (s .fits .value)))
+    c .says .ensures ∙ ap (says (s .args .message) Declined) (c .before .shown-by .ensures ∙ ap (shownBy (s .args .entry)) (rd-is (s .fits .value)))
 
 pub declines-spec : {M : Type 1} → statement M
 declines-spec = tie.close (tie.spec shown-by-requires says-requires returns)

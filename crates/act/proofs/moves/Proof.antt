@@ -1,12 +1,12 @@
 -- `act::moves` meets its contract: the test is the definition's. Assumes nothing.
-use mathlib.Core.Path.{_≡_, sym, ap, ap₂, _∙_}
-use Rattle.number.proofs.Signed.{rd-is, rd-ok}
+use mathlib.Core.Path.{_≡_, sym, ap, _∙_}
+use Rattle.number.proofs.Signed.{rd-is}
 use mathlib.Core.Bool.{_&&_}
 use lib.IntN.{ℤ}
 use Rattle.number.specs.Number.{inRange}
 use Rattle.sheet.specs.declared.Entry.the-variants.{Found}
 use Rattle.sheet.specs.Values.{isReadWrite}
-use Rattle.act.specs.Act.{puts, declines, moves}
+use Rattle.act.specs.Act.{accepts, declines, moves}
 use borrow.Author.Needs.{needs}
 use Rattle.act.proofs.moves.Statement.{statement}
 use Rattle.act.proofs.moves.Tie as tie
@@ -17,8 +17,8 @@ is-read-write-requires c κs = search needs
 in-range-requires : tie.Need-in-range-requires
 in-range-requires c κs = search needs
 
-puts-requires : tie.Need-puts-requires
-puts-requires c κs = search needs
+accepts-requires : tie.Need-accepts-requires
+accepts-requires c κs = search needs
 
 declines-requires : tie.Need-declines-requires
 declines-requires c κs = search needs
@@ -41,7 +41,7 @@ returns : tie.Need-returns
 unfolding moves
 returns c =
     let s = c .before .before .before .before .before .before in
-    c .puts .ensures ∙ ap (λ (z : ℤ). puts (s .args .message) z (s .args .row .decimals)) (rd-is (s .fits .next)) ∙ sym (rw (was (c .before .before) ∙ c .before .if1 .taken))
+    c .accepts .ensures ∙ ap (λ (z : ℤ). accepts (s .args .message) z (s .args .row .decimals)) (rd-is (s .fits .next)) ∙ sym (rw (was (c .before .before) ∙ c .before .if1 .taken))
 
 returns-2 : tie.Need-returns-2
 unfolding moves
@@ -55,7 +55,7 @@ moves-spec =
     (tie.spec
     is-read-write-requires
     in-range-requires
-    puts-requires
+    accepts-requires
     declines-requires
     returns
     returns-2)

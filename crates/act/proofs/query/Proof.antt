@@ -1,8 +1,9 @@
 -- `act::query` meets its contract: the arm and the test say which case it is. Assumes nothing.
-use Rattle.sheet.specs.declared.Entry.the-variants.{Found}
-use mathlib.Core.Path.{_≡_, sym, ap, ap₂, _∙_}
+use mathlib.Core.Path.{sym, ap, _∙_}
 use lib.IntN.{ℤ}
-use Rattle.number.proofs.Signed.{rd-is, rd-ok}
+use Rattle.number.specs.Data.{withDecimals}
+use Rattle.number.proofs.Signed.{rd-is}
+use Rattle.sheet.specs.declared.Entry.the-variants.{Found}
 use Rattle.reply.specs.declared.Mark.the-variants.{Accepted}
 use Rattle.reply.specs.declared.Content.the-variants.{Number}
 use Rattle.act.specs.Act.{says, declines, query}
@@ -28,6 +29,9 @@ returns c =
 is-readable-requires : tie.Need-is-readable-requires
 is-readable-requires c κs = search needs
 
+number-in-requires : tie.Need-number-in-requires
+number-in-requires c κs = search needs
+
 says-requires : tie.Need-says-requires
 says-requires c κs = search needs
 
@@ -37,11 +41,12 @@ declines-requires-2 c κs = search needs
 returns-2 : tie.Need-returns-2
 unfolding query
 returns-2 c =
-    let e = c .before .before .before .before .entry .given in
-    let s = c .before .before .before .before .before .before in
+    let n = c .before in
+    let e = n .before .before .before .before .entry .given in
+    let s = n .before .before .before .before .before .before in
     c .says .ensures
-    ∙ ap (λ (z : ℤ). says (s .args .message) Accepted (Number z (e .0 .0 .decimals))) (rd-is (s .fits .value))
-    ∙ sym (rw (e .1) (rw (sym (c .before .before .is-readable .ensures) ∙ c .before .if1 .taken)))
+    ∙ ap (says (s .args .message) Accepted) (n .number-in .ensures ∙ ap (λ (z : ℤ). Number (withDecimals z (e .0 .0 .decimals))) (rd-is (s .fits .value)))
+    ∙ sym (rw (e .1) (rw (sym (n .before .before .is-readable .ensures) ∙ n .before .if1 .taken)))
 
 returns-3 : tie.Need-returns-3
 unfolding query
@@ -61,6 +66,7 @@ query-spec =
     declines-requires
     returns
     is-readable-requires
+    number-in-requires
     says-requires
     declines-requires-2
     returns-2

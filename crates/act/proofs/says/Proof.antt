@@ -2,9 +2,7 @@
 use Rattle.act.specs.declared.Offer.the-variants.{Nothing}
 use Rattle.act.specs.declared.Said.the-variants.{Reply}
 use Rattle.act.specs.declared.Store.the-variants.{Keep}
-use Rattle.act.specs.declared.Effect.{Effect}
 use Rattle.act.specs.Act.{says}
-use mathlib.Core.Path.{_≡_, sym, ap, ap₂, _∙_}
 use borrow.Author.Needs.{needs}
 use Rattle.act.proofs.says.Statement.{statement}
 use Rattle.act.proofs.says.Tie as tie

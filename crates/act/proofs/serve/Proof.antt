@@ -1,10 +1,8 @@
 -- `act::serve` meets its contract: the arm says which type it is. Assumes nothing.
-use mathlib.Core.Path.{_≡_, sym, ap, ap₂, _∙_}
+use mathlib.Core.Path.{sym, ap, _∙_}
 use lib.IntN.{ℤ}
-use Rattle.number.proofs.Signed.{rd-is, rd-ok}
-use mir.Syntax.{w32}
-use mir.Val.{SFits}
-use Rattle.act.specs.Act.{query, up, down, set, serve}
+use Rattle.number.proofs.Signed.{rd-is}
+use Rattle.act.specs.Act.{query, up, down, setTo, serve}
 use borrow.Author.Needs.{needs}
 use Rattle.act.proofs.serve.Statement.{statement}
 use Rattle.act.proofs.serve.Tie as tie
@@ -36,8 +34,8 @@ down-requires c κs = search needs
 enum-known-body : tie.Need-enum-known-body
 enum-known-body c = search needs
 
-set-requires : tie.Need-set-requires
-set-requires c κs = search needs
+set-to-requires : tie.Need-set-to-requires
+set-to-requires c κs = search needs
 
 enum-told-5 : tie.Need-enum-told-5
 enum-told-5 c = search needs
@@ -72,10 +70,7 @@ unfolding serve
 returns-5 c =
     let b = c .before .before .body .given in
     let s = c .before .before .before .before in
-    let f : SFits w32 (b .0 .0) = record { sfits = c .before .known-told .given .0 .1 } in
-    c .set .ensures
-    ∙ ap₂ (λ (v n : ℤ). set (s .args .message) (s .args .entry) v n (b .0 .1 .0)) (rd-is (s .fits .value)) (rd-is f)
-    ∙ sym (rw (b .1))
+    c .set-to .ensures ∙ ap (λ (v : ℤ). setTo (s .args .message) (s .args .entry) v (b .0 .0)) (rd-is (s .fits .value)) ∙ sym (rw (b .1))
 
 returns-6 : tie.Need-returns-6
 unfolding serve
@@ -94,7 +89,7 @@ serve-spec =
     enum-told-4
     down-requires
     enum-known-body
-    set-requires
+    set-to-requires
     enum-told-5
     store-offer-requires
     returns

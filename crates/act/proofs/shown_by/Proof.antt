@@ -1,6 +1,9 @@
 -- `act::shown_by` meets its contract: the arm and the test say which case it is. Assumes nothing.
-use mathlib.Core.Path.{_≡_, sym, ap, ap₂, _∙_}
-use Rattle.number.proofs.Signed.{rd-is, rd-ok}
+use mathlib.Core.Path.{sym, ap, _∙_}
+use lib.IntN.{ℤ}
+use Rattle.number.specs.Data.{withDecimals}
+use Rattle.number.proofs.Signed.{rd-is}
+use Rattle.reply.specs.declared.Content.the-variants.{Number}
 use Rattle.act.specs.Act.{shownBy}
 use borrow.Author.Needs.{needs}
 use Rattle.act.proofs.shown_by.Statement.{statement}
@@ -12,22 +15,47 @@ enum-known-entry c = search needs
 enum-told : tie.Need-enum-told
 enum-told c = search needs
 
+no-number-requires : tie.Need-no-number-requires
+no-number-requires c κs = search needs
+
 returns : tie.Need-returns
 unfolding shownBy
-returns c = rw (c .enum-told .given .1)
+returns c = c .no-number .ensures ∙ sym (rw (c .before .enum-told .given .1))
 
 is-readable-requires : tie.Need-is-readable-requires
 is-readable-requires c κs = search needs
 
+number-in-requires : tie.Need-number-in-requires
+number-in-requires c κs = search needs
+
+no-number-requires-2 : tie.Need-no-number-requires-2
+no-number-requires-2 c κs = search needs
+
 returns-2 : tie.Need-returns-2
 unfolding shownBy
-returns-2 c = simp (rd-is (c .before .before .before .before .before .fits .value)) (rw (c .before .before .before .entry .given .1) (rw (sym (c .before .is-readable .ensures) ∙ c .if1 .taken)))
+returns-2 c =
+    let e = c .before .before .before .before .entry .given in
+    let s = c .before .before .before .before .before .before in
+    c .number-in .ensures
+    ∙ ap (λ (z : ℤ). Number (withDecimals z (e .0 .0 .decimals))) (rd-is (s .fits .value))
+    ∙ sym (rw (e .1) (rw (sym (c .before .before .is-readable .ensures) ∙ c .before .if1 .taken)))
 
 returns-3 : tie.Need-returns-3
 unfolding shownBy
-returns-3 c = rw (c .before .before .before .entry .given .1) (rw (sym (c .before .is-readable .ensures) ∙ c .if1 .left))
+returns-3 c =
+    let e = c .before .before .before .before .entry .given in
+    c .no-number2 .ensures ∙ sym (rw (e .1) (rw (sym (c .before .before .is-readable .ensures) ∙ c .before .if1 .left)))
 
 pub shown-by-spec : {M : Type 1} → statement M
 shown-by-spec =
     tie.close
-    (tie.spec enum-known-entry enum-told returns is-readable-requires returns-2 returns-3)
+    (tie.spec
+    enum-known-entry
+    enum-told
+    no-number-requires
+    returns
+    is-readable-requires
+    number-in-requires
+    no-number-requires-2
+    returns-2
+    returns-3)

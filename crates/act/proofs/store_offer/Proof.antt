@@ -1,10 +1,10 @@
 -- `act::store_offer` meets its contract: the arm and the test say which case it is. Assumes nothing.
-use mathlib.Core.Path.{_≡_, sym, ap, ap₂, _∙_}
-use Rattle.number.proofs.Signed.{rd-is, rd-ok}
+use mathlib.Core.Path.{sym, ap₂, _∙_}
+use Rattle.number.proofs.Signed.{rd-is}
 use borrow.Author.Tests.{eq-eqb, ne-eqb}
 use mir.Syntax.{w32}
 use mir.Val.{SFits}
-use Rattle.act.specs.Act.{puts, store}
+use Rattle.act.specs.Act.{accepts, store}
 use borrow.Author.Needs.{needs}
 use Rattle.act.proofs.store_offer.Statement.{statement}
 use Rattle.act.proofs.store_offer.Tie as tie
@@ -25,8 +25,8 @@ returns c = c .silent .ensures ∙ sym (rw (c .before .enum-told .given .1))
 decimals-of-requires : tie.Need-decimals-of-requires
 decimals-of-requires c κs = search needs
 
-puts-requires : tie.Need-puts-requires
-puts-requires c κs = search needs
+accepts-requires : tie.Need-accepts-requires
+accepts-requires c κs = search needs
 
 silent-requires-2 : tie.Need-silent-requires-2
 silent-requires-2 c κs = search needs
@@ -38,8 +38,8 @@ returns-2 c =
     let o = k .before .offer .given in
     let s = k .before .before .before in
     let f : SFits w32 (o .0 .1 .0) = record { sfits = k .known-told .given .1 .0 .1 } in
-    c .puts .ensures
-    ∙ ap₂ (puts (s .args .message)) (rd-is f) (c .before .decimals-of .ensures)
+    c .accepts .ensures
+    ∙ ap₂ (accepts (s .args .message)) (rd-is f) (c .before .decimals-of .ensures)
     ∙ sym (rw (o .1) (rw (eq-eqb (o .0 .0) (s .args .message .identifier) (c .before .before .if1 .taken))))
 
 returns-3 : tie.Need-returns-3
@@ -58,7 +58,7 @@ store-offer-spec =
     silent-requires
     returns
     decimals-of-requires
-    puts-requires
+    accepts-requires
     silent-requires-2
     returns-2
     returns-3)

@@ -1,5 +1,5 @@
 -- `act::up` meets its contract: the arm says which case it is. Assumes nothing.
-use mathlib.Core.Path.{_≡_, sym, ap, ap₂, _∙_}
+use mathlib.Core.Path.{sym, ap, ap₂, _∙_}
 use Rattle.number.proofs.Signed.{rd-is, rd-ok}
 use Rattle.number.specs.Number.{raised}
 use Rattle.act.specs.Act.{declines, moves, up}

@@ -1,10 +1,10 @@
 -- `card::check` meets its contract: each return by the tests that led there, in the paper's order. Assumes nothing.
-use mathlib.Core.Path.{_≡_, refl, sym, ap, ap₂, _∙_}
-use mathlib.Core.Bool.{Bool, true, false, _&&_}
+use mathlib.Core.Path.{_≡_, sym, ap₂, _∙_}
+use mathlib.Core.Bool.{Bool, true, _&&_}
 use borrow.Author.Tests.{not-true, not-false}
 use Rattle.sheet.specs.Sheet.{soundSheet}
 use Rattle.sheet.specs.Values.{soundValues}
-use Rattle.card.specs.Sound.{soundCard, soundOffer}
+use Rattle.card.specs.Refusals.{soundCard, soundOffer}
 use Rattle.card.proofs.Steps.{card-unsound, sheet-unsound, offer-unsound, values-unsound, word-above, all-sound}
 use borrow.Author.Needs.{needs}
 use Rattle.card.proofs.check.Statement.{statement}

@@ -1,9 +1,9 @@
--- `card::run` meets its contract: the verdict says whether it is refused or the words are taken. Assumes nothing.
-use mathlib.Core.Path.{_≡_, refl, sym, ap, ap₂, _∙_}
-use Rattle.card.specs.declared.Verdict.{Verdict}
-use Rattle.card.specs.Turn.{Played, play}
-use Rattle.card.specs.Calls.{Run, runBy}
-use Rattle.card.proofs.Steps.{sheets-sound, run-refused, run-served}
+-- `card::run` meets its contract: a refused run leaves everything, and a served one is played. Assumes nothing.
+use mathlib.Core.Path.{_≡_, sym, ap, _∙_}
+use Rattle.refusal.specs.Refusal.{gave, verdictOf}
+use Rattle.refusal.specs.Check.{first}
+use Rattle.card.specs.Refusals.{cardChecks}
+use Rattle.card.proofs.Steps.{sheets-passed, run-refused, run-served}
 use borrow.Author.Needs.{needs}
 use Rattle.card.proofs.run.Statement.{statement}
 use Rattle.card.proofs.run.Tie as tie
@@ -17,28 +17,25 @@ enum-known-refusal c = search needs
 enum-told : tie.Need-enum-told
 enum-told c = search needs
 
+-- the verdict says that the tests are passed
+passed : (k : tie.After-enum-told) → first (cardChecks (k .before .before .before .before .before .before .args .card) (k .before .before .before .before .before .before .args .bench .now) (k .before .before .before .before .before .before .args .maker .now) (k .before .before .before .before .before .before .args .values .now) (k .before .before .before .before .before .before .args .words .now)) ≡ gave tt
+passed k = sym (k .before .before .check .ensures) ∙ ap verdictOf (k .enum-told .given .1)
+
 take-all-requires : tie.Need-take-all-requires
 take-all-requires c κs =
-    let n = c .before .before in
-    let k = n .before .before in
-    let a = k .before .before .before .before .args in
-    sheets-sound (a .card) (a .bench .now) (a .maker .now) (a .values .now) (a .words .now) (sym (k .check .ensures) ∙ n .enum-told .given .1)
+    let k = c .before .before in
+    let a = k .before .before .before .before .before .before .args in
+    sheets-passed (a .card) (a .bench .now) (a .maker .now) (a .values .now) (a .words .now) (passed k)
 
 same-length : tie.Need-same-length
 same-length c = search needs
 
 returns : tie.Need-returns
-unfolding runBy
 returns c =
-    let k = c .before .before .before in
+    let r = c .before in
+    let k = r .before .before in
     let a = k .before .before .before .before .args in
-    let r = c .before .refusal .given in
-    let e = run-refused (a .card) (a .bench .now) (a .maker .now) (a .values .now) (a .words .now) (a .out .now) _ (sym (k .check .ensures) ∙ r .1) in (
-      sym (ap (λ (s : Run). s .card) e),
-      sym (ap (λ (s : Run). s .outcome) e),
-      sym (ap (λ (s : Run). s .values) e),
-      sym (ap (λ (s : Run). s .buffer) e),
-    )
+    sym (run-refused (a .card) (a .bench .now) (a .maker .now) (a .values .now) (a .words .now) (a .out .now) _ (sym (k .check .ensures) ∙ ap verdictOf (r .refusal .given .1)))
 
 same-length-2 : tie.Need-same-length-2
 same-length-2 c = search needs
@@ -47,18 +44,11 @@ same-length-3 : tie.Need-same-length-3
 same-length-3 c = search needs
 
 returns-2 : tie.Need-returns-2
-unfolding runBy
 returns-2 c =
     let t = c .before .before .before in
-    let n = t .before .before .before in
-    let k = n .before .before in
-    let a = k .before .before .before .before .args in
-    let e = run-served (a .card) (a .bench .now) (a .maker .now) (a .values .now) (a .words .now) (a .out .now) (sym (k .check .ensures) ∙ n .enum-told .given .1) in (
-      t .take-all .ensures .card-is ∙ sym (ap (λ (s : Run). s .card) e),
-      t .take-all .ensures .answer-is ∙ sym (ap (λ (s : Run). s .outcome) e),
-      t .take-all .ensures .values-are ∙ sym (ap (λ (s : Run). s .values) e),
-      t .take-all .ensures .buffer-is ∙ sym (ap (λ (s : Run). s .buffer) e),
-    )
+    let k = t .before .before .before in
+    let a = k .before .before .before .before .before .before .args in
+    t .take-all .ensures ∙ sym (run-served (a .card) (a .bench .now) (a .maker .now) (a .values .now) (a .words .now) (a .out .now) (passed k))
 
 pub run-spec : {M : Type 1} → statement M
 run-spec =

@@ -1,22 +1,18 @@
--- `card::sound_card` meets its contract: the three tests are the definition's. Assumes nothing.
-use Rattle.card.specs.Sound.{soundCard}
+-- `card::sound_card` meets its contract: the two tests are the definition's. Assumes nothing.
+use Rattle.card.specs.Refusals.{soundCard}
 use borrow.Author.Needs.{needs}
 use Rattle.card.proofs.sound_card.Statement.{statement}
 use Rattle.card.proofs.sound_card.Tie as tie
 
-is-letter-requires : tie.Need-is-letter-requires
-is-letter-requires c κs = search needs
-
-is-address-requires : tie.Need-is-address-requires
-is-address-requires c κs = search needs
+sound-setup-requires : tie.Need-sound-setup-requires
+sound-setup-requires c κs = search needs
 
 is-sound-requires : tie.Need-is-sound-requires
 is-sound-requires c κs = search needs
 
 returns : tie.Need-returns
 unfolding soundCard
-returns c = simp (c .before .before .is-letter .ensures, c .before .is-address .ensures, c .is-sound .ensures)
+returns c = cc
 
 pub sound-card-spec : {M : Type 1} → statement M
-sound-card-spec =
-    tie.close (tie.spec is-letter-requires is-address-requires is-sound-requires returns)
+sound-card-spec = tie.close (tie.spec sound-setup-requires is-sound-requires returns)

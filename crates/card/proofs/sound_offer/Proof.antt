@@ -1,14 +1,12 @@
 -- `card::sound_offer` meets its contract: the arms say what the offer and its entry are. Assumes nothing.
-use mathlib.Core.Path.{_≡_, refl, sym, ap, ap₂, _∙_}
-use lib.IntN.{ℤ}
+use mathlib.Core.Path.{sym, ap, ap₂, _∙_}
 use mir.Syntax.{w32}
 use mir.Val.{SFits}
 use Rattle.number.proofs.Signed.{rd-is}
 use Rattle.sheet.specs.declared.Entry.{Entry}
-use Rattle.act.specs.declared.Offer.{Offer}
 use mathlib.Core.Bool.{Bool, _&&_}
-use Rattle.sheet.specs.Values.{isWritable, fitsRow, entryIn}
-use Rattle.card.specs.Sound.{offerable, soundOffer}
+use Rattle.sheet.specs.Values.{fitsRow}
+use Rattle.card.specs.Refusals.{offerable, soundOffer}
 use borrow.Author.Needs.{needs}
 use Rattle.card.proofs.sound_offer.Statement.{statement}
 use Rattle.card.proofs.sound_offer.Tie as tie

@@ -1,9 +1,12 @@
--- `card::step` meets its contract: the verdict says whether it is refused or the word is taken. Assumes nothing.
-use mathlib.Core.Path.{_≡_, refl, sym, ap, ap₂, _∙_}
+-- `card::step` meets its contract: a refused word leaves everything, and a served one is taken. Assumes nothing.
+use mathlib.Core.Path.{_≡_, sym, ap, _∙_}
 use mathlib.Core.List.{[], _∷_}
-use Rattle.card.specs.declared.Verdict.{Verdict}
-use Rattle.card.specs.Calls.{Step}
-use Rattle.card.proofs.Steps.{sheets-sound, step-refused, step-served}
+use Rattle.refusal.specs.Refusal.{gave, verdictOf}
+use Rattle.refusal.specs.Check.{first}
+use Rattle.card.specs.declared.Stepped.{Stepped}
+use Rattle.card.specs.Refusals.{cardChecks}
+use Rattle.card.specs.Calls.{stepAfter}
+use Rattle.card.proofs.Steps.{sheets-passed, step-refused, step-passed}
 use borrow.Author.Needs.{needs}
 use Rattle.card.proofs.step.Statement.{statement}
 use Rattle.card.proofs.step.Tie as tie
@@ -17,30 +20,32 @@ check-requires c κs = search needs
 enum-known-refusal : tie.Need-enum-known-refusal
 enum-known-refusal c = search needs
 
+refused-requires : tie.Need-refused-requires
+refused-requires c κs = search needs
+
 enum-told : tie.Need-enum-told
 enum-told c = search needs
 
+-- the verdict says that the tests are passed
+passed : (k : tie.After-enum-told) → first (cardChecks (k .before .before .before .before .before .before .args .card) (k .before .before .before .before .before .before .args .bench .now) (k .before .before .before .before .before .before .args .maker .now) (k .before .before .before .before .before .before .args .values .now) (k .before .before .before .before .before .before .args .word ∷ [])) ≡ gave tt
+passed k = sym (k .before .before .check .ensures) ∙ ap verdictOf (k .enum-told .given .1)
+
 take-requires : tie.Need-take-requires
 take-requires c κs =
-    let n = c .before .before in
-    let k = n .before .before in
-    let a = k .before .before .before .before .args in
-    sheets-sound (a .card) (a .bench .now) (a .maker .now) (a .values .now) (a .word ∷ []) (sym (k .check .ensures) ∙ n .enum-told .given .1)
+    let k = c .before .before in
+    let a = k .before .before .before .before .before .before .args in
+    sheets-passed (a .card) (a .bench .now) (a .maker .now) (a .values .now) (a .word ∷ []) (passed k)
 
 same-length : tie.Need-same-length
 same-length c = search needs
 
 returns : tie.Need-returns
 returns c =
-    let k = c .before .before .before in
+    let r = c .before .before in
+    let k = r .before .before in
     let a = k .before .before .before .before .args in
-    let r = c .before .refusal .given in
-    let e = step-refused (a .card) (a .bench .now) (a .maker .now) (a .values .now) (a .word) (a .out .now) _ (sym (k .check .ensures) ∙ r .1) in (
-      sym (ap (λ (s : Step). s .card) e),
-      sym (ap (λ (s : Step). s .outcome) e),
-      sym (ap (λ (s : Step). s .values) e),
-      sym (ap (λ (s : Step). s .buffer) e),
-    )
+    ap (λ (x : Stepped). stepAfter x (a .values .now) (a .out .now)) (c .refused .ensures)
+    ∙ sym (step-refused (a .card) (a .bench .now) (a .maker .now) (a .values .now) (a .word) (a .out .now) _ (sym (k .check .ensures) ∙ ap verdictOf (r .refusal .given .1)))
 
 same-length-2 : tie.Need-same-length-2
 same-length-2 c = search needs
@@ -51,15 +56,9 @@ same-length-3 c = search needs
 returns-2 : tie.Need-returns-2
 returns-2 c =
     let t = c .before .before .before in
-    let n = t .before .before .before in
-    let k = n .before .before in
-    let a = k .before .before .before .before .args in
-    let e = step-served (a .card) (a .bench .now) (a .maker .now) (a .values .now) (a .word) (a .out .now) (sym (k .check .ensures) ∙ n .enum-told .given .1) in (
-      t .take .ensures .0 ∙ sym (ap (λ (s : Step). s .card) e),
-      t .take .ensures .1 ∙ sym (ap (λ (s : Step). s .outcome) e),
-      t .take .ensures .2 ∙ sym (ap (λ (s : Step). s .values) e),
-      t .take .ensures .3 ∙ sym (ap (λ (s : Step). s .buffer) e),
-    )
+    let k = t .before .before .before in
+    let a = k .before .before .before .before .before .before .args in
+    t .take .ensures ∙ sym (step-passed (a .card) (a .bench .now) (a .maker .now) (a .values .now) (a .word) (a .out .now) (passed k))
 
 pub step-spec : {M : Type 1} → statement M
 step-spec =
@@ -68,6 +67,7 @@ step-spec =
     slice-aggregate-check
     check-requires
     enum-known-refusal
+    refused-requires
     enum-told
     take-requires
     same-length

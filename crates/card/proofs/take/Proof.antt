@@ -1,35 +1,129 @@
--- `card::take` meets its contract: eleven bytes are room for any reply, so a run of the word takes it. Assumes nothing.
-use mathlib.Core.Path.{_≡_, sym, ap}
-use Rattle.card.specs.Turn.{turn}
-use Rattle.card.specs.Calls.{Step}
-use Rattle.card.proofs.Steps.{step-short}
-use Rattle.card.proofs.Runs.{steps, never-refused}
+-- `card::take` meets its contract: the arm says what the word does. Assumes nothing.
+use mathlib.Core.Path.{_≡_, sym, ap, ap₂, _∙_}
+use mathlib.Core.List.{List, [], _∷_}
+use Prim.Native.Nat.{ℕ, _≤_}
+use lib.IntN.{ℤ}
+use lib.ListN.{length}
+use Rattle.refusal.specs.Refusal.{Outcome}
+use Rattle.refusal.specs.Check.{first, decided}
+use Rattle.message.specs.declared.Parsed.{Parsed}
+use Rattle.reply.specs.Reply.{longestReply}
+use Rattle.card.specs.declared.Card.{Card}
+use Rattle.card.specs.declared.StepAnswer.the-variants.{Replied}
+use Rattle.card.specs.declared.Stepped.{Stepped}
+use Rattle.card.specs.Turn.{Turn, effectOf, turned, turn}
+use Rattle.card.specs.Refusals.{roomCheck}
+use Rattle.card.specs.Calls.{After, kept, stepAfter, answered}
+use Rattle.card.proofs.Turns.{stays, turn-ignore, turn-open, turn-add, turn-close, turn-drop}
+use Rattle.card.proofs.Steps.{room-short, room-enough, quiet-answered}
 use borrow.Author.Needs.{needs}
 use Rattle.card.proofs.take.Statement.{statement}
 use Rattle.card.proofs.take.Tie as tie
 
+refused-requires : tie.Need-refused-requires
+refused-requires c κs = search needs
+
+-- what the call comes to, short of room and with it
+module _ (s : tie.Start) where
+  abbrev v : List ℤ
+  v = s .args .values .now
+
+  abbrev out : List ℕ
+  out = s .args .out .now
+
+  abbrev its : Turn
+  its = turn (s .args .bench .now) (s .args .maker .now) (s .args .card) v (s .args .word)
+
+  abbrev comes : Outcome (Unit {0}) → After ℕ
+  comes o = decided o (kept (s .args .card) v out) (answered its v out)
+
+  served : longestReply ≤ length out → (t : Turn) → its ≡ t → answered t v out ≡ comes (first (roomCheck out ∷ []))
+  served h t e = ap (λ (x : Turn). answered x v out) (sym e) ∙ ap comes (sym (room-enough out h))
+
+  -- a word that closes no message
+  silent : longestReply ≤ length out → (c : Card) (r : Stepped) → r ≡ record { card = c; answer = Replied 0 } → its ≡ stays c → stepAfter r v out ≡ comes (first (roomCheck out ∷ []))
+  silent h c r e t = ap (λ (x : Stepped). stepAfter x v out) e ∙ quiet-answered c v out ∙ served h (stays c) t
+
 returns : tie.Need-returns
 returns c =
-    let a = c .before .before .args in
-    let t = turn (a .bench .now) (a .maker .now) (a .card) (a .values .now) (a .word) in
-    let e = step-short t (a .card) (a .values .now) (a .out .now) (c .if1 .taken) in (
-      sym (ap (λ (s : Step). s .card) e),
-      sym (ap (λ (s : Step). s .outcome) e),
-      sym (ap (λ (s : Step). s .values) e),
-      sym (ap (λ (s : Step). s .buffer) e),
-    )
+    let s = c .before .before .before in
+    ap (λ (x : Stepped). stepAfter x (v s) (out s)) (c .refused .ensures) ∙ ap (comes s) (sym (room-short (out s) (c .before .if1 .taken)))
 
-slice-aggregate-take-all : tie.Need-slice-aggregate-take-all
-slice-aggregate-take-all c = search needs
+-- what the word does, with room
+module _ (k : tie.After-action) where
+  abbrev begun : tie.Start
+  begun = k .before .before .before .before
 
-take-all-requires : tie.Need-take-all-requires
-take-all-requires c κs = search needs
+  room : longestReply ≤ length (out begun)
+  room = k .before .before .if1 .left
 
-enum-known-taken : tie.Need-enum-known-taken
-enum-known-taken c = search needs
+action-requires : tie.Need-action-requires
+action-requires c κs = search needs
 
-enum-known-taken-2 : tie.Need-enum-known-taken-2
-enum-known-taken-2 c = search needs
+enum-told : tie.Need-enum-told
+enum-told c = search needs
+
+quiet-requires : tie.Need-quiet-requires
+quiet-requires c κs = search needs
+
+enum-known-c : tie.Need-enum-known-c
+enum-known-c c = search needs
+
+open-requires : tie.Need-open-requires
+open-requires c κs = search needs
+
+quiet-requires-2 : tie.Need-quiet-requires-2
+quiet-requires-2 c κs = search needs
+
+enum-known-c-2 : tie.Need-enum-known-c-2
+enum-known-c-2 c = search needs
+
+add-requires : tie.Need-add-requires
+add-requires c κs = search needs
+
+quiet-requires-3 : tie.Need-quiet-requires-3
+quiet-requires-3 c κs = search needs
+
+enum-told-2 : tie.Need-enum-told-2
+enum-told-2 c = search needs
+
+close-requires : tie.Need-close-requires
+close-requires c κs = search needs
+
+close-requires-2 : tie.Need-close-requires-2
+close-requires-2 c κs = search needs
+
+answer-requires : tie.Need-answer-requires
+answer-requires c κs = search needs
+
+enum-told-3 : tie.Need-enum-told-3
+enum-told-3 c = search needs
+
+close-requires-3 : tie.Need-close-requires-3
+close-requires-3 c κs = search needs
+
+quiet-requires-4 : tie.Need-quiet-requires-4
+quiet-requires-4 c κs = search needs
+
+returns-2 : tie.Need-returns-2
+returns-2 c =
+    let k = c .before .before .before in
+    let a = begun k .args in
+    silent (begun k) (room k) (a .card) _ (c .quiet .ensures) (turn-ignore (a .bench .now) (a .maker .now) (a .card) (a .values .now) (a .word) (sym (k .action .ensures) ∙ c .before .enum-told .given .1))
+
+returns-3 : tie.Need-returns-3
+returns-3 c =
+    let o = c .before in
+    let k = o .before .before .before .before in
+    let a = begun k .args in
+    silent (begun k) (room k) _ _ (c .quiet2 .ensures) (turn-open (a .bench .now) (a .maker .now) (a .card) (a .values .now) (a .word) _ (sym (k .action .ensures) ∙ o .before .before .c .given .1) ∙ ap stays (sym (o .«open» .ensures)))
+
+returns-4 : tie.Need-returns-4
+returns-4 c =
+    let o = c .before in
+    let k = o .before .before .before .before in
+    let a = begun k .args in
+    silent (begun k) (room k) _ _ (c .quiet3 .ensures) (turn-add (a .bench .now) (a .maker .now) (a .card) (a .values .now) (a .word) _ (sym (k .action .ensures) ∙ o .before .before .c2 .given .1) ∙ ap stays (sym (o .add .ensures)))
 
 same-length : tie.Need-same-length
 same-length c = search needs
@@ -37,41 +131,54 @@ same-length c = search needs
 same-length-2 : tie.Need-same-length-2
 same-length-2 c = search needs
 
-returns-2 : tie.Need-returns-2
-returns-2 c =
-    let t = c .before .before .before .before .before .before .before in
-    let e = t .before .before .before .before in
-    let a = e .before .before .args in
-    absurd
-    (never-refused (a .bench .now) (a .maker .now) (a .card) (a .values .now) (a .word) (a .out .now) (e .if1 .left) (t .take-all .result) _ _ (t .take-all .ensures)
-    (c .before .taken .given .0 .0) (c .before .taken .given .1))
+returns-5 : tie.Need-returns-5
+unfolding turned
+returns-5 c =
+    let r = c .before .before .before in
+    let d = r .before .before .before in
+    let p = d .before in
+    let t = p .before in
+    let k = t .before .before in
+    let s = begun k in
+    let a = s .args in
+    let x = effectOf (a .bench .now) (a .maker .now) in
+    r .answer .ensures
+    ∙ ap₂ (λ (y : Card) (q : Parsed). answered (turned y (y .pending) (x (y .setup) (y .offer) (v s) q)) (v s) (out s)) (d .close2 .ensures) (p .close .ensures)
+    ∙ served s (room k) _ (turn-close (a .bench .now) (a .maker .now) (a .card) (v s) (a .word) (sym (k .action .ensures) ∙ t .enum-told2 .given .1))
 
-same-length-3 : tie.Need-same-length-3
-same-length-3 c = search needs
-
-same-length-4 : tie.Need-same-length-4
-same-length-4 c = search needs
-
-returns-3 : tie.Need-returns-3
-returns-3 c =
-    let t = c .before .before .before .before .before .before .before in
-    let e = t .before .before .before .before in
-    let a = e .before .before .args in
-    steps (a .bench .now) (a .maker .now) (a .card) (a .values .now) (a .word) (a .out .now) (e .if1 .left) (t .take-all .result) _ _ (t .take-all .ensures)
-    (c .before .taken2 .given .0 .0) (c .before .taken2 .given .0 .1 .0) (c .before .taken2 .given .1)
+returns-6 : tie.Need-returns-6
+returns-6 c =
+    let d = c .before in
+    let k = d .before .before .before in
+    let a = begun k .args in
+    silent (begun k) (room k) _ _ (c .quiet4 .ensures) (turn-drop (a .bench .now) (a .maker .now) (a .card) (a .values .now) (a .word) (sym (k .action .ensures) ∙ d .before .enum-told3 .given .1) ∙ ap stays (sym (d .close3 .ensures)))
 
 pub take-spec : {M : Type 1} → statement M
 take-spec =
     tie.close
     (tie.spec
+    refused-requires
     returns
-    slice-aggregate-take-all
-    take-all-requires
-    enum-known-taken
-    enum-known-taken-2
+    action-requires
+    enum-told
+    quiet-requires
+    enum-known-c
+    open-requires
+    quiet-requires-2
+    enum-known-c-2
+    add-requires
+    quiet-requires-3
+    enum-told-2
+    close-requires
+    close-requires-2
+    answer-requires
+    enum-told-3
+    close-requires-3
+    quiet-requires-4
+    returns-2
+    returns-3
+    returns-4
     same-length
     same-length-2
-    returns-2
-    same-length-3
-    same-length-4
-    returns-3)
+    returns-5
+    returns-6)

@@ -1,8 +1,8 @@
 -- `hearing::closed` meets its contract: the part that is parsed holds so many characters, or all of them. Assumes nothing.
-use mathlib.Core.Path.{_≡_, sym, ap, _∙_}
+use mathlib.Core.Path.{sym, ap, _∙_}
 use native.Mathlib.Omega.{arith}
 use lib.Seq.{length-take-le, take-all}
-use Rattle.message.specs.Scan.{parse}
+use Rattle.message.specs.Prefix.{parse}
 use borrow.Author.Needs.{needs}
 use Rattle.hearing.proofs.closed.Statement.{statement}
 use Rattle.hearing.proofs.closed.Tie as tie

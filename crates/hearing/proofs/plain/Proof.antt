@@ -5,7 +5,7 @@ use borrow.Author.Tests.{not-true, not-false}
 use Prim.Native.Nat.{_-_}
 use native.Mathlib.Omega.{arith}
 use lib.ListN.{length}
-use Rattle.wire.proofs.Words.{Tested, test-starts, test-passes, test-fails, test-ends}
+use Rattle.refusal.proofs.Lists.{Tested, test-starts, test-passes, test-fails, test-ends}
 use Rattle.hearing.specs.Sound.{plainChar, plain}
 use Rattle.hearing.proofs.plain.Statement.{statement}
 use Rattle.hearing.proofs.plain.Tie as tie
@@ -26,7 +26,7 @@ returns : tie.Need-returns Inv-loop μ-loop
 unfolding plain plainChar
 returns c =
     let l = c .before .before .before in
-    test-fails plainChar (l .before .args .chars .now) (l .loop .inv) (c .before .before .loop-test .taken) (not-true _ (c .if1 .taken))
+    test-fails plainChar 0 (l .before .args .chars .now) (l .loop .inv) (c .before .before .loop-test .taken) (not-true _ (c .if1 .taken))
 
 add-i : tie.Need-add-i Inv-loop μ-loop
 add-i c = omega arith
@@ -37,12 +37,12 @@ loop-less c = omega arith
 loop-again : tie.Need-loop-again Inv-loop μ-loop
 loop-again c =
     let l = c .before .before .before in
-    test-passes plainChar (l .before .args .chars .now) (l .loop .inv) (c .before .before .loop-test .taken) (unfold plainChar in not-false _ (c .if1 .left))
+    test-passes plainChar 0 (l .before .args .chars .now) (l .loop .inv) (c .before .before .loop-test .taken) (unfold plainChar in not-false _ (c .if1 .left))
 
 returns-2 : tie.Need-returns-2 Inv-loop μ-loop
 unfolding plain plainChar
 returns-2 c =
-    let l = c .before in test-ends plainChar (l .before .args .chars .now) (l .loop .inv) (c .loop-test .left)
+    let l = c .before in test-ends plainChar 0 (l .before .args .chars .now) (l .loop .inv) (c .loop-test .left)
 
 pub plain-spec : {M : Type 1} → statement M
 plain-spec =

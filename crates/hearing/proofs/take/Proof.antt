@@ -1,16 +1,13 @@
 -- `hearing::take` meets its contract: each arm is its action, done in place. Assumes nothing.
 use mathlib.Core.Path.{_≡_, refl, sym, ap, ap₂, _∙_}
 use mathlib.Core.Bool.{Bool, true, false}
-use mathlib.Core.List.{List}
 use Prim.Native.Nat.{ℕ, _+_, _<_, _≤_}
-use native.Mathlib.Omega.{arith}
 use borrow.Author.Needs.{needs}
 use borrow.Author.Tests.{lt-ltb, le-ltb}
 use lib.ListN.{set, replicate}
 use Rattle.hearing.specs.declared.Pending.{Pending}
 use Rattle.hearing.specs.declared.Action.{Action}
 use Rattle.hearing.specs.declared.Action.the-variants.{Ignore, Open, Add, Close, Drop}
-use Rattle.hearing.specs.declared.Next.{Next}
 use Rattle.hearing.specs.Hearing.{most, none, added, actionOf, perform, closes, leftBy, nextOf, charsOf}
 use Rattle.hearing.proofs.take.Statement.{statement}
 use Rattle.hearing.proofs.take.Tie as tie

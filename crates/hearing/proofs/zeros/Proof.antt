@@ -6,7 +6,7 @@ use lib.Dec.{eqb}
 use Prim.Native.Nat.{ℕ, _-_}
 use native.Mathlib.Omega.{arith}
 use lib.ListN.{length}
-use Rattle.wire.proofs.Words.{Tested, test-starts, test-passes, test-fails, test-ends}
+use Rattle.refusal.proofs.Lists.{Tested, test-starts, test-passes, test-fails, test-ends}
 use Rattle.hearing.specs.Sound.{zeros}
 use Rattle.hearing.proofs.zeros.Statement.{statement}
 use Rattle.hearing.proofs.zeros.Tie as tie
@@ -30,7 +30,7 @@ returns : tie.Need-returns Inv-loop μ-loop
 unfolding zeros
 returns c =
     let l = c .before .before .before in
-    test-fails is-zero (l .before .args .chars .now) (l .loop .inv) (c .before .before .loop-test .taken) (ne-eqb _ 0 (c .if1 .taken))
+    test-fails is-zero 0 (l .before .args .chars .now) (l .loop .inv) (c .before .before .loop-test .taken) (ne-eqb _ 0 (c .if1 .taken))
 
 add-i : tie.Need-add-i Inv-loop μ-loop
 add-i c = omega arith
@@ -41,12 +41,12 @@ loop-less c = omega arith
 loop-again : tie.Need-loop-again Inv-loop μ-loop
 loop-again c =
     let l = c .before .before .before in
-    test-passes is-zero (l .before .args .chars .now) (l .loop .inv) (c .before .before .loop-test .taken) (eq-eqb _ 0 (c .if1 .left))
+    test-passes is-zero 0 (l .before .args .chars .now) (l .loop .inv) (c .before .before .loop-test .taken) (eq-eqb _ 0 (c .if1 .left))
 
 returns-2 : tie.Need-returns-2 Inv-loop μ-loop
 unfolding zeros
 returns-2 c =
-    let l = c .before in test-ends is-zero (l .before .args .chars .now) (l .loop .inv) (c .loop-test .left)
+    let l = c .before in test-ends is-zero 0 (l .before .args .chars .now) (l .loop .inv) (c .loop-test .left)
 
 pub zeros-spec : {M : Type 1} → statement M
 zeros-spec =

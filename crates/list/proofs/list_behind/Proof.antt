@@ -24,8 +24,8 @@ returns : tie.Need-returns
 returns c =
     let l = c .before .before in
     let s = c .before .before .before .before .before .before in (
-      words-within _ _ _ (l .list .result) (l .list .ensures .0),
-      in-changed (s .args .used) (l .list .result .written) (s .args .out .now) (s .pre) (lines-within _ _ _ (l .list .result) (l .list .ensures .0)) (l .list .last .1 .1 .0) (l .list .kept .1 .1 .0),
+      words-within _ _ _ (l .list .result) _ (l .list .ensures),
+      in-changed (s .args .used) (l .list .result .written) (s .args .out .now) (s .pre) (lines-within _ _ _ (l .list .result) _ (l .list .ensures)) (l .list .last .1 .1 .0) (l .list .kept .1 .1 .0),
     )
 
 pub list-behind-spec : {M : Type 1} → statement M

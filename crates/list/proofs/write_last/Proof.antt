@@ -1,10 +1,9 @@
 -- `list::write_last` is safe: what `listing::last` gives lies in the part that it was lent. Assumes nothing.
 use lib.Seq.{length-take-le}
 use Rattle.list.proofs.Rooms.{in-part, in-changed}
-use mathlib.Core.Path.{sym, ap, _∙_}
+use mathlib.Core.Path.{sym}
 use native.Mathlib.Omega.{arith}
-use Rattle.refusal.specs.Refusal.{outcomeOf}
-use Rattle.listing.proofs.Bounds.{gave-within}
+use Rattle.refusal.proofs.Placing.{wrote-within}
 use borrow.Author.Needs.{needs}
 use Rattle.list.proofs.write_last.Statement.{statement}
 use Rattle.list.proofs.write_last.Tie as tie
@@ -38,7 +37,7 @@ add-end c =
     let n = c .before .n .given in
     let l = c .before .before .before .before .before in
     let s = l .before .before .before in
-    let f = gave-within _ _ (n .0 .0) (sym (ap outcomeOf (n .1)) ∙ l .last .ensures .0) in
+    let f = wrote-within _ _ (l .last .result) (n .0 .0) (l .last .ensures) (n .1) in
     omega (arith, in-part (s .args .used) (n .0 .0) (s .args .out .now) (s .pre) f)
 
 slice-reshare-prefix-flush : tie.Need-slice-reshare-prefix-flush
@@ -46,7 +45,7 @@ slice-reshare-prefix-flush c =
     let n = c .before .n .given in
     let l = c .before .before .before .before .before in
     let s = l .before .before .before in
-    let f = gave-within _ _ (n .0 .0) (sym (ap outcomeOf (n .1)) ∙ l .last .ensures .0) in
+    let f = wrote-within _ _ (l .last .result) (n .0 .0) (l .last .ensures) (n .1) in
     in-changed (s .args .used) (n .0 .0) (s .args .out .now) (s .pre) f (l .last .last .1 .0) (l .last .kept .1 .0)
 
 slice-aggregate-flush : tie.Need-slice-aggregate-flush
@@ -54,7 +53,7 @@ slice-aggregate-flush c =
     let n = c .before .before .n .given in
     let l = c .before .before .before .before .before .before in
     let s = l .before .before .before in
-    let f = gave-within _ _ (n .0 .0) (sym (ap outcomeOf (n .1)) ∙ l .last .ensures .0) in
+    let f = wrote-within _ _ (l .last .result) (n .0 .0) (l .last .ensures) (n .1) in
     sym (length-take-le _ _ (in-changed (s .args .used) (n .0 .0) (s .args .out .now) (s .pre) f (l .last .last .1 .0) (l .last .kept .1 .0)))
 
 flush-requires : tie.Need-flush-requires

@@ -2,9 +2,10 @@
 use mathlib.Core.Path.{ap, _∙_}
 use mathlib.Core.List.{List}
 use Prim.Native.Nat.{ℕ}
-use Rattle.refusal.specs.Call.{writes}
-use Rattle.listing.specs.Text.{longest}
-use Rattle.listing.proofs.Texts.{part-holds}
+use Rattle.refusal.specs.Call.{placeCall}
+use Rattle.refusal.proofs.Calls.{placed-writes}
+use Rattle.listing.specs.Inner.{longestLine}
+use Rattle.listing.proofs.Texts.{part-ends}
 use borrow.Author.Needs.{needs}
 use Rattle.listing.proofs.last.Statement.{statement}
 use Rattle.listing.proofs.last.Tie as tie
@@ -15,28 +16,29 @@ slice-aggregate-put-last c = search needs
 put-last-requires : tie.Need-put-last-requires
 put-last-requires c κs = search needs
 
-sub-write : tie.Need-sub-write
-sub-write c = search needs
+sub-place : tie.Need-sub-place
+sub-place c = search needs
 
-part-write-start : tie.Need-part-write-start
-part-write-start c = search needs
+part-place-start : tie.Need-part-place-start
+part-place-start c = search needs
 
-part-write-end : tie.Need-part-write-end
-part-write-end c = search needs
+part-place-end : tie.Need-part-place-end
+part-place-end c = search needs
 
-write-requires : tie.Need-write-requires
-write-requires c κs = search needs
+place-requires : tie.Need-place-requires
+place-requires c κs = search needs
 
 same-length : tie.Need-same-length
 same-length c = search needs
 
 returns : tie.Need-returns
 returns c =
-    let p = c .before .before .before .before .before .before .before .put-last in
-    let out = c .before .before .before .before .before .before .before .before .before .before .args .out .now in
-    let w = c .before .before .write .ensures in
-    let e = part-holds _ (p .result) (p .last .0) longest (p .kept .0) (p .ensures) in
-    (w .0 ∙ ap (λ (l : List ℕ). writes l out .outcome) e, w .1 ∙ ap (λ (l : List ℕ). writes l out .buffer) e)
+    let w = c .before .before in
+    let t = w .before .before .before .before .before in
+    let out = t .before .before .before .args .out .now in
+    w .place .ensures
+    ∙ ap (λ (l : List ℕ). placeCall l 0 out) (part-ends _ (t .put-last .result) (t .put-last .last .0) longestLine (t .put-last .kept .0) (t .put-last .ensures))
+    ∙ placed-writes _ out
 
 pub last-spec : {M : Type 1} → statement M
 last-spec =
@@ -44,9 +46,9 @@ last-spec =
     (tie.spec
     slice-aggregate-put-last
     put-last-requires
-    sub-write
-    part-write-start
-    part-write-end
-    write-requires
+    sub-place
+    part-place-start
+    part-place-end
+    place-requires
     same-length
     returns)

@@ -1,22 +1,20 @@
 -- `listing::list` meets its contract. The loop's invariant: what is written and what is still to come are the whole, and what lies
 -- behind is as it was. Assumes nothing.
 use mathlib.Core.Path.{_≡_, refl, sym, ap, ap₂, _∙_, subst}
-use mathlib.Core.Bool.{Bool, true, false}
+use mathlib.Core.Bool.{true, false}
 use mathlib.Core.List.{List}
-use mathlib.Core.Logic.{⊎-elim}
-use Prim.Native.Nat.{ℕ, _+_, _-_, _<_, _≤_}
+use Prim.Native.Nat.{ℕ, _+_, _-_}
 use native.Mathlib.Omega.{arith}
 use borrow.Author.Needs.{needs}
 use borrow.Author.Tests.{not-true, not-false}
 use Rattle.hearing.specs.declared.Pending.{Pending}
 use Rattle.hearing.specs.declared.Next.{Next}
-use Rattle.hearing.specs.Hearing.{actionOf, hear, closes, leftBy}
+use Rattle.hearing.specs.Hearing.{actionOf, hear, closes}
 use Rattle.hearing.proofs.Close.{left-closed, left-other, other-unheard}
 use Rattle.listing.specs.declared.Progress.{Progress}
-use Rattle.listing.specs.declared.Step.{Step}
-use Rattle.listing.specs.declared.Stop.the-variants.{Done, Bad, Full}
-use Rattle.listing.specs.Listing.{next}
-use Rattle.listing.proofs.Loops.{Taken, takes, StepIs, step-unheard, stops-bad, stops-full, stops-done, took}
+use Rattle.listing.specs.declared.Stop.the-variants.{Full}
+use Rattle.listing.specs.Listing.{nextPosition}
+use Rattle.listing.proofs.Loops.{Continues, continue-begins, AdvanceIs, advance-unheard, stops-bad, stops-full, stops-done, continue-goes-on}
 use Rattle.listing.proofs.list.Statement.{statement}
 use Rattle.listing.proofs.list.Tie as tie
 
@@ -25,19 +23,16 @@ progressOf chars len at count = record { pending = record { chars = chars; len =
 
 abbrev Inv-loop : tie.InvT-loop
 Inv-loop bytes out₀ words chars₀ len₀ at₀ count₀ written₀ taken₀ out chars len at count written taken =
-    Taken (progressOf chars₀ len₀ at₀ count₀) bytes out₀ out (progressOf chars len at count) written taken
+    Continues (progressOf chars₀ len₀ at₀ count₀) bytes out₀ out (progressOf chars len at count) written taken
 
 abbrev μ-loop : tie.MeasureT-loop
 μ-loop bytes out₀ words chars₀ len₀ at₀ count₀ written₀ taken₀ out chars len at count written taken = words - taken
 
 loop-holds : tie.Need-loop-holds Inv-loop μ-loop
-loop-holds c = let a = c .before .before .before .before .args in takes (a .progress) (a .bytes .now) (a .out .now)
+loop-holds c = let a = c .before .before .before .before .args in continue-begins (a .progress) (a .bytes .now) (a .out .now)
 
 word-at-requires : tie.Need-word-at-requires Inv-loop μ-loop
 word-at-requires c κs = omega arith
-
-so-far-requires : tie.Need-so-far-requires Inv-loop μ-loop
-so-far-requires c κs = search needs
 
 stopped-requires : tie.Need-stopped-requires Inv-loop μ-loop
 stopped-requires c κs = search needs
@@ -48,15 +43,15 @@ module _ (wa : tie.After-word-at Inv-loop μ-loop) where
   at-loop-of-word = wa .before .before
 
 same-length : tie.Need-same-length Inv-loop μ-loop
-same-length c = at-loop-of-word (c .before .before .before) .loop .inv .long
+same-length c = at-loop-of-word (c .before .before) .loop .inv .filling .long
 
 returns : tie.Need-returns Inv-loop μ-loop
 returns c =
-    let wa = c .before .before .before in
+    let wa = c .before .before in
     let l = at-loop-of-word wa in
     let a = l .before .before .before .before .before .args in
     stops-bad (a .progress) (a .bytes .now) (a .out .now) (l .loop .out) (progressOf (l .loop .chars) (l .loop .len) (l .loop .at) (l .loop .count)) (l .loop .written) (l .loop .taken) (l .loop .inv) (wa .word-at .result) (wa .word-at .ensures) (wa .before .loop-test .taken)
-    (c .stopped .result) (c .stopped .ensures ∙ ap (λ (p : Progress). record { progress = p; taken = l .loop .taken; written = l .loop .written; stop = Bad }) (c .before .so-far .ensures)) (c .before .before .if1 .taken)
+    (c .stopped .result) (c .stopped .ensures) (c .before .if1 .taken)
 
 take-requires : tie.Need-take-requires Inv-loop μ-loop
 take-requires c κs = search needs
@@ -103,58 +98,55 @@ module _ (t : tie.After-take Inv-loop μ-loop) where
       (t .take .ensures .1 ∙ ap (λ (p : Pending). p .chars) (left-closed (here .pending) (actionOf (here .pending) word) (told ∙ f)))
 
 loop-again : tie.Need-loop-again Inv-loop μ-loop
-unfolding next
+unfolding nextPosition
 loop-again c =
     let t = c .before .before .before in
     let l = at-loop t in
     let a = start t .args in
     let f = not-true _ (c .before .if2 .taken) in
     let h = hear (here t .pending) (word t) in
-    let r = step-unheard (here t) (word t) (l .loop .written) (l .loop .out) h refl (c .wrapping-add-u64 .result) (c .wrapping-add-u64 .ensures) (other-unheard (here t .pending) (word t) (told t ∙ f)) (omega (arith, l .loop .inv .room-in, l .loop .inv .long)) in
-    subst (λ (p : Pending). Taken (a .progress) (a .bytes .now) (a .out .now) (l .loop .out) (record { pending = p; at = c .wrapping-add-u64 .result; count = l .loop .count }) (l .loop .written) (l .loop .taken + 1)) (sym (left-open t f))
-    (took (a .progress) (a .bytes .now) (a .out .now) (l .loop .out) (here t) (l .loop .written) (l .loop .taken) (l .loop .inv) (word t) (word-read t .word-at .ensures) (word-read t .before .loop-test .taken)
-    (t .before .before .if1 .left) _ (r .0) (l .loop .out) refl (r .1))
+    let r = advance-unheard (here t) (word t) (l .loop .written) (l .loop .out) h refl (c .wrapping-add-u64 .result) (c .wrapping-add-u64 .ensures) (other-unheard (here t .pending) (word t) (told t ∙ f)) (omega (arith, l .loop .inv .room-in, l .loop .inv .filling .long)) in
+    subst (λ (p : Pending). Continues (a .progress) (a .bytes .now) (a .out .now) (l .loop .out) (record { pending = p; at = c .wrapping-add-u64 .result; count = l .loop .count }) (l .loop .written) (l .loop .taken + 1)) (sym (left-open t f))
+    (continue-goes-on (a .progress) (a .bytes .now) (a .out .now) (l .loop .out) (here t) (l .loop .written) (l .loop .taken) (l .loop .inv) (word t) (word-read t .word-at .ensures) (word-read t .before .loop-test .taken)
+    (t .before .before .if1 .left) _ (l .loop .out) r refl)
 
-so-far-requires-2 : tie.Need-so-far-requires-2 Inv-loop μ-loop
-so-far-requires-2 c κs = search needs
+so-far-requires : tie.Need-so-far-requires Inv-loop μ-loop
+so-far-requires c κs = search needs
 
 take-word-requires : tie.Need-take-word-requires Inv-loop μ-loop
 take-word-requires c κs = omega arith
 
--- a word that closes the message makes its step
+-- a word that closes the message makes its advance
 module _ (tw : tie.After-take-word Inv-loop μ-loop) where
   abbrev taken-word : tie.After-take Inv-loop μ-loop
   taken-word = tw .before .before .before .before .before
 
-  before-it : tw .before .before .so-far2 .result ≡ here taken-word
-  before-it = tw .before .before .so-far2 .ensures ∙ left-as-it-was taken-word (not-false _ (tw .before .before .before .if2 .left))
+  before-it : tw .before .before .so-far .result ≡ here taken-word
+  before-it = tw .before .before .so-far .ensures ∙ left-as-it-was taken-word (not-false _ (tw .before .before .before .if2 .left))
 
-  step-is : StepIs (here taken-word) (word taken-word) (at-loop taken-word .loop .written) (at-loop taken-word .loop .out) (tw .take-word .result) (tw .take-word .last .1 .1 .0)
-  step-is =
-      subst (λ (p : Progress). StepIs p (word taken-word) (at-loop taken-word .loop .written) (at-loop taken-word .loop .out) (tw .take-word .result) (tw .take-word .last .1 .1 .0))
+  advance-is : AdvanceIs (here taken-word) (word taken-word) (at-loop taken-word .loop .written) (at-loop taken-word .loop .out) (tw .take-word .result) (tw .take-word .last .1 .1 .0)
+  advance-is =
+      subst (λ (p : Progress). AdvanceIs p (word taken-word) (at-loop taken-word .loop .written) (at-loop taken-word .loop .out) (tw .take-word .result) (tw .take-word .last .1 .1 .0))
       before-it (tw .take-word .ensures .0, tw .take-word .ensures .1)
-
-so-far-requires-3 : tie.Need-so-far-requires-3 Inv-loop μ-loop
-so-far-requires-3 c κs = search needs
 
 stopped-requires-2 : tie.Need-stopped-requires-2 Inv-loop μ-loop
 stopped-requires-2 c κs = search needs
 
 same-length-2 : tie.Need-same-length-2 Inv-loop μ-loop
 same-length-2 c =
-    let tw = c .before .before .before .before .before .before in
-    tw .take-word .kept .1 .1 .0 ∙ at-loop (taken-word tw) .loop .inv .long
+    let tw = c .before .before .before .before .before in
+    tw .take-word .kept .1 .1 .0 ∙ at-loop (taken-word tw) .loop .inv .filling .long
 
 returns-2 : tie.Need-returns-2 Inv-loop μ-loop
 returns-2 c =
-    let tw = c .before .before .before .before .before .before in
+    let tw = c .before .before .before .before .before in
     let t = taken-word tw in
     let l = at-loop t in
     let a = start t .args in
-    let before = c .before .so-far3 .ensures ∙ left-as-it-was t (not-false _ (tw .before .before .before .if2 .left)) in
+    let before = left-as-it-was t (not-false _ (tw .before .before .before .if2 .left)) in
     stops-full (a .progress) (a .bytes .now) (a .out .now) (l .loop .out) (here t) (l .loop .written) (l .loop .taken) (l .loop .inv) (word t) (word-read t .word-at .ensures) (word-read t .before .loop-test .taken)
-    (t .before .before .if1 .left) (tw .take-word .result) (step-is tw .0) (tw .take-word .last .1 .1 .0) (c .stopped2 .result)
-    (c .stopped2 .ensures ∙ ap (λ (p : Progress). record { progress = p; taken = l .loop .taken; written = l .loop .written; stop = Full }) before) (not-true _ (c .before .before .if3 .taken)) (step-is tw .1)
+    (t .before .before .if1 .left) (tw .take-word .result) (tw .take-word .last .1 .1 .0) (advance-is tw) (c .stopped2 .result)
+    (c .stopped2 .ensures ∙ ap (λ (p : Progress). record { progress = p; taken = l .loop .taken; written = l .loop .written; stop = Full }) before) (not-true _ (c .before .if3 .taken))
 
 add-taken-2 : tie.Need-add-taken-2 Inv-loop μ-loop
 add-taken-2 c =
@@ -172,24 +164,21 @@ loop-again-2 c =
     let t = taken-word tw in
     let l = at-loop t in
     let a = start t .args in
-    took (a .progress) (a .bytes .now) (a .out .now) (l .loop .out) (here t) (l .loop .written) (l .loop .taken) (l .loop .inv) (word t) (word-read t .word-at .ensures) (word-read t .before .loop-test .taken)
-    (t .before .before .if1 .left) (tw .take-word .result) (step-is tw .0) (tw .take-word .last .1 .1 .0) (not-false _ (c .before .before .before .if3 .left)) (step-is tw .1)
-
-so-far-requires-4 : tie.Need-so-far-requires-4 Inv-loop μ-loop
-so-far-requires-4 c κs = search needs
+    continue-goes-on (a .progress) (a .bytes .now) (a .out .now) (l .loop .out) (here t) (l .loop .written) (l .loop .taken) (l .loop .inv) (word t) (word-read t .word-at .ensures) (word-read t .before .loop-test .taken)
+    (t .before .before .if1 .left) (tw .take-word .result) (tw .take-word .last .1 .1 .0) (advance-is tw) (not-false _ (c .before .before .before .if3 .left))
 
 stopped-requires-3 : tie.Need-stopped-requires-3 Inv-loop μ-loop
 stopped-requires-3 c κs = search needs
 
 same-length-3 : tie.Need-same-length-3 Inv-loop μ-loop
-same-length-3 c = c .before .before .before .loop .inv .long
+same-length-3 c = c .before .before .loop .inv .filling .long
 
 returns-3 : tie.Need-returns-3 Inv-loop μ-loop
 returns-3 c =
-    let l = c .before .before .before in
+    let l = c .before .before in
     let a = l .before .before .before .before .before .args in
     stops-done (a .progress) (a .bytes .now) (a .out .now) (l .loop .out) (progressOf (l .loop .chars) (l .loop .len) (l .loop .at) (l .loop .count)) (l .loop .written) (l .loop .taken) (l .loop .inv) (c .stopped3 .result)
-    (c .stopped3 .ensures ∙ ap (λ (p : Progress). record { progress = p; taken = l .loop .taken; written = l .loop .written; stop = Done }) (c .before .so-far4 .ensures)) (c .before .before .loop-test .left)
+    (c .stopped3 .ensures) (c .before .loop-test .left)
 
 pub list-spec : {M : Type 1} → statement M
 list-spec =
@@ -199,7 +188,6 @@ list-spec =
     μ-loop
     loop-holds
     word-at-requires
-    so-far-requires
     stopped-requires
     same-length
     returns
@@ -208,16 +196,14 @@ list-spec =
     add-taken
     loop-less
     loop-again
-    so-far-requires-2
+    so-far-requires
     take-word-requires
-    so-far-requires-3
     stopped-requires-2
     same-length-2
     returns-2
     add-taken-2
     loop-less-2
     loop-again-2
-    so-far-requires-4
     stopped-requires-3
     same-length-3
     returns-3)

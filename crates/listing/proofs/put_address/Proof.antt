@@ -1,8 +1,6 @@
 -- `listing::put_address` meets its contract: one digit or two, by the definition's test. Assumes nothing.
-use borrow.Author.Tests.{le-leb, lt-leb}
 use lib.Dec.{lit≤}
-use Rattle.number.specs.Data.{digit}
-use Rattle.message.specs.Spell.{spellAddress}
+use Rattle.message.proofs.Examples.{address-one, address-two}
 use Rattle.listing.proofs.Texts.{as-before, both-before}
 use borrow.Author.Needs.{needs}
 use Rattle.listing.proofs.put_address.Statement.{statement}
@@ -18,8 +16,7 @@ same-length : tie.Need-same-length
 same-length c = search needs
 
 returns : tie.Need-returns
-unfolding spellAddress digit
-returns c = as-before (c .before .before .put .ensures) 2 _ (rw (le-leb _ _ (c .before .before .before .before .if1 .taken))) (lit≤ tt)
+returns c = as-before (c .before .before .put .ensures) 2 _ (address-one _ (c .before .before .before .before .if1 .taken)) (lit≤ tt)
 
 add-put-2 : tie.Need-add-put-2
 add-put-2 c = search needs
@@ -37,8 +34,7 @@ same-length-2 : tie.Need-same-length-2
 same-length-2 c = search needs
 
 returns-2 : tie.Need-returns-2
-unfolding spellAddress digit
-returns-2 c = as-before (both-before (c .before .before .before .before .before .before .put2 .ensures) (c .before .before .put3 .ensures)) 2 _ (rw (lt-leb _ _ (c .before .before .before .before .before .before .before .before .if1 .left))) (lit≤ tt)
+returns-2 c = as-before (both-before (c .before .before .before .before .before .before .put2 .ensures) (c .before .before .put3 .ensures)) 2 _ (address-two _ (c .before .before .before .before .before .before .before .before .if1 .left)) (lit≤ tt)
 
 pub put-address-spec : {M : Type 1} → statement M
 put-address-spec =

@@ -17,7 +17,7 @@ returns : tie.Need-returns
 returns c =
     let p = c .before .before .place in
     let s = c .before .before .before .before .before .before in
-    all-before (s .args .text .now) (s .args .from) (s .args .characters .now) (s .pre) (p .last .1 .0) (p .ensures .1)
+    all-before (s .args .text .now) (s .args .from) (s .args .characters .now) (s .pre) (p .ensures)
 
 pub put-all-spec : {M : Type 1} → statement M
 put-all-spec = tie.close (tie.spec sub-at place-requires same-length returns)

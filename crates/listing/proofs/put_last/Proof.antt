@@ -1,7 +1,7 @@
 -- `listing::put_last` meets its contract: the arm taken says how the listing ends. Assumes nothing.
 use mathlib.Core.Path.{refl}
 use Rattle.listing.specs.Listing.{lastLine}
-use Rattle.listing.proofs.Texts.{holds}
+use Rattle.listing.proofs.Texts.{ends-with}
 use borrow.Author.Needs.{needs}
 use Rattle.listing.proofs.put_last.Statement.{statement}
 use Rattle.listing.proofs.put_last.Tie as tie
@@ -46,7 +46,7 @@ same-length-3 c = search needs
 
 returns-3 : tie.Need-returns-3
 unfolding lastLine
-returns-3 c = rw (c .before .before .before .before .before .enum-told .given .1) (holds (c .before .before .put-all .kept .0) refl (c .before .before .put-all .ensures))
+returns-3 c = rw (c .before .before .before .before .before .enum-told .given .1) (ends-with (c .before .before .put-all .kept .0) refl (c .before .before .put-all .ensures))
 
 pub put-last-spec : {M : Type 1} → statement M
 put-last-spec =

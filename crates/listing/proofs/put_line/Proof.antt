@@ -2,7 +2,7 @@
 -- Assumes nothing.
 use mathlib.Core.Path.{refl, _∙_}
 use Rattle.listing.specs.Line.{line}
-use Rattle.listing.proofs.Texts.{both-before, holds}
+use Rattle.listing.proofs.Texts.{both-before, ends-with}
 use borrow.Author.Needs.{needs}
 use Rattle.listing.proofs.put_line.Statement.{statement}
 use Rattle.listing.proofs.put_line.Tie as tie
@@ -33,7 +33,7 @@ returns c =
     let letter = space .before .before .before .before in
     let address = letter .before .before .before .before in
     let request = address .before .before .before .before in
-    holds
+    ends-with
     (position .put-decimal .kept .0 ∙ space .put2 .kept .0 ∙ letter .put .kept .0 ∙ address .put-address .kept .0 ∙ request .put-request .kept .0)
     refl
     (both-before (both-before (both-before (both-before (request .put-request .ensures) (address .put-address .ensures)) (letter .put .ensures)) (space .put2 .ensures)) (position .put-decimal .ensures))

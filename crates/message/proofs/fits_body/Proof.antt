@@ -1,7 +1,4 @@
 -- `message::fits_body` meets its contract: the arm taken says which body it is. Assumes nothing.
-use mir.Syntax.{w32}
-use mir.Val.{SFits}
-use Rattle.number.proofs.Signed.{rd-is}
 use Rattle.message.specs.Message.{fitsBody}
 use borrow.Author.Needs.{needs}
 use Rattle.message.proofs.fits_body.Statement.{statement}
@@ -47,8 +44,7 @@ returns-4 c = rw (c .enum-told4 .given .1)
 returns-5 : tie.Need-returns-5
 unfolding fitsBody
 returns-5 c =
-    let f : SFits w32 (c .before .before .body .given .0 .0) = record { sfits = c .before .known-told .given .0 .1 } in
-    rw (c .before .before .body .given .1) (simp (c .fits2 .ensures, rd-is f))
+    rw (c .before .before .body .given .1) (simp (c .fits2 .ensures))
 
 returns-6 : tie.Need-returns-6
 unfolding fitsBody

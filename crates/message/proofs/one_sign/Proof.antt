@@ -6,9 +6,8 @@ use lib.Dec.{eqb}
 use Rattle.refusal.proofs.Logic.{choice}
 use Rattle.number.specs.Data.{start}
 use Rattle.message.specs.declared.Parsed.the-variants.{Unheard}
-use Rattle.message.specs.declared.Scan.{Scan}
-use Rattle.message.specs.declared.Scan.the-variants.{Digits, Wrong}
-use Rattle.message.specs.Scan.{stepBody, finish}
+use Rattle.message.specs.Prefix.{Prefix, Digits, Wrong}
+use Rattle.message.specs.Prefix.{extendBody, finish}
 use borrow.Author.Needs.{needs}
 use Rattle.message.proofs.one_sign.Statement.{statement}
 use Rattle.message.proofs.one_sign.Tie as tie
@@ -17,25 +16,25 @@ heard-requires : tie.Need-heard-requires
 heard-requires c κs = search needs
 
 returns : tie.Need-returns
-unfolding stepBody finish
+unfolding extendBody finish
 returns c = c .heard .ensures ∙ sym (rw (eq-eqb _ _ (c .before .if2 .taken), eq-eqb _ _ (c .before .before .if1 .taken)))
 
 heard-requires-2 : tie.Need-heard-requires-2
 heard-requires-2 c κs = search needs
 
 returns-2 : tie.Need-returns-2
-unfolding stepBody finish
+unfolding extendBody finish
 returns-2 c = c .heard2 .ensures ∙ sym (rw (ne-eqb _ _ (c .before .if2 .left), eq-eqb _ _ (c .before .before .if1 .taken)))
 
 returns-3 : tie.Need-returns-3
-unfolding stepBody finish
+unfolding extendBody finish
 returns-3 c = rw (eq-eqb _ _ (c .if3 .taken), ne-eqb _ _ (c .before .if1 .left))
 
 heard-requires-3 : tie.Need-heard-requires-3
 heard-requires-3 c κs = search needs
 
 returns-4 : tie.Need-returns-4
-unfolding stepBody finish
+unfolding extendBody finish
 returns-4 c =
     let e = c .before .before in
     c .heard3 .ensures ∙ sym (rw (ne-eqb _ _ (e .if3 .left), ne-eqb _ _ (e .before .if1 .left), eq-eqb _ _ (c .before .if4 .taken)))
@@ -44,7 +43,7 @@ heard-requires-4 : tie.Need-heard-requires-4
 heard-requires-4 c κs = search needs
 
 returns-5 : tie.Need-returns-5
-unfolding stepBody finish
+unfolding extendBody finish
 returns-5 c =
     let f = c .before .before in
     let e = f .before in
@@ -54,7 +53,7 @@ heard-requires-5 : tie.Need-heard-requires-5
 heard-requires-5 c κs = search needs
 
 returns-6 : tie.Need-returns-6
-unfolding stepBody finish
+unfolding extendBody finish
 returns-6 c =
     let g = c .before .before in
     let f = g .before in
@@ -64,14 +63,14 @@ returns-6 c =
 
 -- what is left is `#` with nothing behind it, or wrong
 returns-7 : tie.Need-returns-7
-unfolding stepBody finish
+unfolding extendBody finish
 returns-7 c =
     let g = c .before in
     let f = g .before in
     let e = f .before in
     let a = e .before .before .args in
     rw (ne-eqb _ _ (e .if3 .left), ne-eqb _ _ (e .before .if1 .left), ne-eqb _ _ (f .if4 .left), ne-eqb _ _ (g .if5 .left), ne-eqb _ _ (c .if6 .left))
-    (choice (λ (s : Scan). Unheard ≡ finish s) (eqb (a .c) (code "#")) {x = Digits (a .letter) (a .address) (a .identifier) start} {y = Wrong} (λ _. refl) (λ _. refl))
+    (choice (λ (s : Prefix). Unheard ≡ finish s) (eqb (a .c) (code "#")) {x = Digits (a .letter) (a .address) (a .identifier) start} {y = Wrong} (λ _. refl) (λ _. refl))
 
 pub one-sign-spec : {M : Type 1} → statement M
 one-sign-spec =

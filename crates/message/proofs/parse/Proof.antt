@@ -11,11 +11,10 @@ use lib.ListN.{length, getD, drop, length-drop}
 use Rattle.number.specs.Data.{isDigit, digitOf}
 use Rattle.number.proofs.Digits.{digit-ends}
 use Rattle.message.specs.declared.Parsed.{Parsed}
-use Rattle.message.specs.declared.Scan.{Scan}
-use Rattle.message.specs.declared.Scan.the-variants.{Start, Digit, Address}
+use Rattle.message.specs.Prefix.{Prefix, Start, Digit, Address}
 use Rattle.message.specs.Message.{isLetter}
-use Rattle.message.specs.Scan.{step, finish, parse}
-use Rattle.message.proofs.Places.{scan-more, part-all, leads, past-two, last-two, no-letter, no-digit, first-digit, two-digits, one-digit, wrong-length, one-is-all, too-short}
+use Rattle.message.specs.Prefix.{extend, finish, parse}
+use Rattle.message.proofs.Places.{all-more, part-all, leads, past-two, last-two, no-letter, no-digit, first-digit, two-digits, one-digit, wrong-length, one-is-all, too-short}
 use borrow.Author.Needs.{needs}
 use Rattle.message.proofs.parse.Statement.{statement}
 use Rattle.message.proofs.parse.Tie as tie
@@ -46,7 +45,7 @@ module _ (t : tie.After-is-letter) where
   abbrev e : ℕ
   e = getD cs 2 0
 
-  past : parse cs ≡ leads (step (step Start l) d) (drop 2 cs)
+  past : parse cs ≡ leads (extend (extend Start l) d) (drop 2 cs)
   unfolding parse
   past = past-two Start cs (omega arith)
 
@@ -83,10 +82,10 @@ module _ (c : tie.Else3) where
   is-digit = sym (c .before .is-digit .ensures) ∙ not-false _ (c .if3 .left)
 
   past-digit : parse (cs there) ≡ leads (Digit (l there) one) (drop 2 (cs there))
-  past-digit = past there ∙ ap (λ (s : Scan). leads s (drop 2 (cs there))) (first-digit (l there) (d there) (is-letter (c .before .before)) is-digit)
+  past-digit = past there ∙ ap (λ (s : Prefix). leads s (drop 2 (cs there))) (first-digit (l there) (d there) (is-letter (c .before .before)) is-digit)
 
-  past-second : parse (cs there) ≡ leads (step (Digit (l there) one) (e there)) (drop 3 (cs there))
-  past-second = past-digit ∙ ap finish (scan-more (Digit (l there) one) (cs there) 2 (omega arith))
+  past-second : parse (cs there) ≡ leads (extend (Digit (l there) one) (e there)) (drop 3 (cs there))
+  past-second = past-digit ∙ ap finish (all-more (Digit (l there) one) (cs there) 2 (omega arith))
 
   by-two : isDigit (e there) ≡ true → parse (cs there) ≡ leads (Address (l there) two) (drop 3 (cs there))
   by-two q = past-second ∙ two-digits (l there) one (e there) (drop 3 (cs there)) q
@@ -94,8 +93,8 @@ module _ (c : tie.Else3) where
   by-one : isDigit (e there) ≡ false → parse (cs there) ≡ leads (Address (l there) one) (drop 2 (cs there))
   by-one q =
       past-second
-      ∙ ap (λ (s : Scan). leads s (drop 3 (cs there))) (one-digit (l there) one (e there) q)
-      ∙ sym (ap finish (scan-more (Address (l there) one) (cs there) 2 (omega arith)))
+      ∙ ap (λ (s : Prefix). leads s (drop 3 (cs there))) (one-digit (l there) one (e there) q)
+      ∙ sym (ap finish (all-more (Address (l there) one) (cs there) 2 (omega arith)))
 
   by-four : length (cs there) ≡ 4 → parse (cs there) ≡ leads (Address (l there) one) (drop 2 (cs there))
   by-four n =
@@ -155,7 +154,7 @@ module _ (j : tie.Joined5) where
 
   -- what `with_sign` gives for these
   abbrev signed : ℕ → ℕ → ℕ → Parsed
-  signed a i k = finish (step (step (Address (l (there from)) a) i) (getD chars k 0))
+  signed a i k = finish (extend (extend (Address (l (there from)) a) i) (getD chars k 0))
 
   with-these : {a i k : ℕ} → j .if5 .address ≡ a → j .if5 .identifier ≡ i → length chars - 1 ≡ k → parse chars ≡ signed a i k
       → signed (j .if5 .address) (j .if5 .identifier) (length chars - 1) ≡ parse chars

@@ -4,7 +4,6 @@ use mathlib.Core.Path.{_≡_, sym, ap, _∙_}
 use lib.ListN.{length, getD}
 use Rattle.wire.specs.Line.{puts}
 use Rattle.number.specs.Data.{spellData}
-use Rattle.number.proofs.Signed.{rd-is}
 use Rattle.number.proofs.Digits.{data-length}
 use Rattle.message.proofs.Places.{five-are}
 use Rattle.message.proofs.Spelling.{puts-five}
@@ -22,7 +21,7 @@ put-all-requires : tie.Need-put-all-requires
 put-all-requires c κs = search needs
 
 returns : tie.Need-returns
-returns c = cc (rd-is (c .before .before .before .before .fits .number))
+returns c = cc
 
 add-second : tie.Need-add-second
 add-second c = search needs
@@ -93,8 +92,8 @@ returns-2 c =
     let e = w₁ .before .before in
     let a = e .before .before .args in
     let ds = e .before .write-data .result in
-    let is : ds ≡ spellData (a .number) (a .decimals) = cc (rd-is (e .before .before .fits .number)) in
-    let five : length ds ≡ 5 = ap length is ∙ data-length (a .number) (a .decimals) in
+    let is : ds ≡ spellData (a .x) = cc in
+    let five : length ds ≡ 5 = ap length is ∙ data-length (a .x) in
     rw (c .with-parity5 .ensures, w₄ .with-parity4 .ensures, w₃ .with-parity3 .ensures, w₂ .with-parity2 .ensures, w₁ .with-parity .ensures)
     (sym (ap (puts (a .line)) (sym (five-are ds five ∙ is)) ∙ puts-five (a .line) (getD ds 0 0) (getD ds 1 0) (getD ds 2 0) (getD ds 3 0) (getD ds 4 0) (e .if1 .left)))
 

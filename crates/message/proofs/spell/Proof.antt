@@ -1,57 +1,93 @@
--- `message::spell` meets its contract: a body that is no data is one character, and the line is by the one or the other. Assumes nothing.
-use mathlib.Core.Path.{sym, ap, _∙_}
-use mathlib.Core.List.{List, [], _∷_, _++_}
-use Prim.Native.Nat.{ℕ}
-use lib.IntN.{ℤ}
-use mir.Syntax.{w32}
-use mir.Val.{SFits}
+-- `message::spell` meets its contract: the parts are put on an empty line one after the other. Assumes nothing.
+use mathlib.Core.Path.{_≡_, sym, _∙_}
 use Rattle.wire.specs.declared.Line.{Line}
-use Rattle.wire.specs.Line.{lineOf}
-use Rattle.number.proofs.Signed.{rd-is}
-use Rattle.message.specs.declared.Body.{Body}
-use Rattle.message.specs.declared.Body.the-variants.{Set}
+use Rattle.wire.specs.Line.{put, puts, lineOf}
 use Rattle.message.specs.declared.Message.{Message}
 use Rattle.message.specs.Message.{star}
-use Rattle.message.specs.Spell.{spellAddress, spellBody, spellOpen, spell}
-use Rattle.message.proofs.Spelling.{one-sign}
+use Rattle.message.specs.Spell.{spellKind, spellBody, spell}
+use Rattle.message.proofs.Spelling.{spelled-line}
 use borrow.Author.Needs.{needs}
 use Rattle.message.proofs.spell.Statement.{statement}
 use Rattle.message.proofs.spell.Tie as tie
 
--- a message by its body
-abbrev line : Message → List ℕ → Line
-line m bs = lineOf ((m .letter ∷ (spellAddress (m .address) ++ (m .identifier ∷ bs))) ++ (star ∷ []))
+new-requires : tie.Need-new-requires
+new-requires c κs = search needs
 
-enum-known-body : tie.Need-enum-known-body
-enum-known-body c = search needs
+put-requires : tie.Need-put-requires
+put-requires c κs = search needs
 
-line-of-sign-requires : tie.Need-line-of-sign-requires
-line-of-sign-requires c κs = search needs
+put-address-requires : tie.Need-put-address-requires
+put-address-requires c κs = search needs
+
+put-requires-2 : tie.Need-put-requires-2
+put-requires-2 c κs = search needs
+
+kind-of-requires : tie.Need-kind-of-requires
+kind-of-requires c κs = search needs
+
+enum-known-c : tie.Need-enum-known-c
+enum-known-c c = search needs
+
+put-requires-3 : tie.Need-put-requires-3
+put-requires-3 c κs = search needs
+
+put-requires-4 : tie.Need-put-requires-4
+put-requires-4 c κs = search needs
+
+enum-known-x : tie.Need-enum-known-x
+enum-known-x c = search needs
+
+put-requires-5 : tie.Need-put-requires-5
+put-requires-5 c κs = search needs
+
+put-data-requires : tie.Need-put-data-requires
+put-data-requires c κs = search needs
+
+put-requires-6 : tie.Need-put-requires-6
+put-requires-6 c κs = search needs
+
+-- the line before the body, and which body it is
+module _ (k : tie.After-kind-of) where
+  abbrev asked : Message
+  asked = k .before .before .before .before .before .args .message
+
+  ends : (l₄ l₅ : Line) → l₄ ≡ puts (k .before .put2 .result) (spellBody (asked .body)) → l₅ ≡ put l₄ star → l₅ ≡ lineOf (spell asked)
+  ends l₄ l₅ e₄ e₅ =
+      let i = k .before in
+      let a = i .before in
+      let l = a .before in
+      spelled-line asked _ _ _ _ _ _ (l .before .new .ensures) (l .put .ensures) (a .put-address .ensures) (i .put2 .ensures) e₄ e₅
 
 returns : tie.Need-returns
-unfolding spell spellOpen
+unfolding spellKind puts
 returns c =
-    let t = c .before in
-    let m = t .before .args .message in
-    c .line-of-sign .ensures ∙ ap (line m) (one-sign (m .body) (t .match .keys2))
-
-line-of-data-requires : tie.Need-line-of-data-requires
-line-of-data-requires c κs = search needs
+    let s = c .before .before .before in
+    let k = s .before .before in
+    ends k _ _ (c .before .put3 .ensures ∙ sym (rw (sym (k .kind-of .ensures) ∙ s .c .given .1))) (c .put4 .ensures)
 
 returns-2 : tie.Need-returns-2
-unfolding spell spellOpen
+unfolding spellKind puts
 returns-2 c =
-    let k = c .before in
-    let m = k .before .before .before .args .message in
-    let f : SFits w32 (k .before .body .given .0 .0) = record { sfits = k .known-told .given .0 .1 } in
-    c .line-of-data .ensures ∙ ap (λ (z : ℤ). line m (spellBody (Set z (k .before .body .given .0 .1 .0)))) (rd-is f) ∙ ap (λ (b : Body). line m (spellBody b)) (sym (k .before .body .given .1))
+    let d = c .before in
+    let s = d .before .before .before in
+    let k = s .before .before in
+    ends k _ _ (d .put-data .ensures ∙ sym (rw (sym (k .kind-of .ensures) ∙ s .x .given .1) (rw (d .before .put5 .ensures)))) (c .put6 .ensures)
 
 pub spell-spec : {M : Type 1} → statement M
 spell-spec =
     tie.close
     (tie.spec
-    enum-known-body
-    line-of-sign-requires
+    new-requires
+    put-requires
+    put-address-requires
+    put-requires-2
+    kind-of-requires
+    enum-known-c
+    put-requires-3
+    put-requires-4
+    enum-known-x
+    put-requires-5
+    put-data-requires
+    put-requires-6
     returns
-    line-of-data-requires
     returns-2)

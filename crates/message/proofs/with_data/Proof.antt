@@ -11,10 +11,9 @@ use lib.ListN.{length, getD, drop, length-drop}
 use Rattle.refusal.proofs.Logic.{and-left, and-right, and-both, not-is}
 use Rattle.number.specs.Data.{readData}
 use Rattle.message.specs.declared.Parsed.the-variants.{Unheard}
-use Rattle.message.specs.declared.Scan.{Scan}
-use Rattle.message.specs.declared.Scan.the-variants.{Address, Identifier}
+use Rattle.message.specs.Prefix.{Prefix, Address, Identifier}
 use Rattle.message.specs.Message.{question, isAddress, isIdentifier}
-use Rattle.message.specs.Scan.{stepData, step, finish}
+use Rattle.message.specs.Prefix.{extendData, extend, finish}
 use Rattle.message.proofs.Places.{part-all, leads, past-two, no-identifier, identifier, no-more, behind-hash}
 use borrow.Author.Needs.{needs}
 use Rattle.message.proofs.with_data.Statement.{statement}
@@ -46,7 +45,7 @@ module _ (t : tie.After-is-address) where
   abbrev c : ℕ
   c = getD cs 1 0
 
-  past : leads (Address l a) cs ≡ leads (step (step (Address l a) i) c) (drop 2 cs)
+  past : leads (Address l a) cs ≡ leads (extend (extend (Address l a) i) c) (drop 2 cs)
   past = past-two (Address l a) cs (omega arith)
 
   unheard : (isAddress a && isIdentifier i) ≡ false → Unheard ≡ leads (Address l a) cs
@@ -71,10 +70,10 @@ module _ (k : tie.Else2) where
   abbrev here : tie.After-is-address
   here = k .before .before .before
 
-  past-identifier : leads (Address (l here) (a here)) (cs here) ≡ leads (step (Identifier (l here) (a here) (i here)) (c here)) (drop 2 (cs here))
+  past-identifier : leads (Address (l here) (a here)) (cs here) ≡ leads (extend (Identifier (l here) (a here) (i here)) (c here)) (drop 2 (cs here))
   past-identifier =
       past here
-      ∙ ap (λ (s : Scan). leads (step s (c here)) (drop 2 (cs here)))
+      ∙ ap (λ (s : Prefix). leads (extend s (c here)) (drop 2 (cs here)))
       (identifier (l here) (a here) (i here) (and-both (is-address (k .before .before)) (sym (k .before .is-identifier .ensures) ∙ not-false _ (k .if2 .left))))
 
 sub-behind-hash : tie.Need-sub-behind-hash
@@ -97,8 +96,8 @@ returns-3 x =
     let hash : c t ≡ code "#" = eqb-true _ _ (and-left _ (not (eqb (i t) question)) (h .if3 .taken)) in
     let other : not (eqb (i t) question) ≡ true = and-right (eqb (c t) (code "#")) _ (h .if3 .taken) in
     x .behind-hash .ensures
-    ∙ ap (λ (ds : List ℕ). finish (stepData (l t) (a t) (i t) (readData ds))) (part-all (cs t) 2)
-    ∙ sym (past-identifier k ∙ ap (λ (y : ℕ). leads (step (Identifier (l t) (a t) (i t)) y) (drop 2 (cs t))) hash ∙ behind-hash (l t) (a t) (i t) (drop 2 (cs t)) (not-is other))
+    ∙ ap (λ (ds : List ℕ). finish (extendData (l t) (a t) (i t) (readData ds))) (part-all (cs t) 2)
+    ∙ sym (past-identifier k ∙ ap (λ (y : ℕ). leads (extend (Identifier (l t) (a t) (i t)) y) (drop 2 (cs t))) hash ∙ behind-hash (l t) (a t) (i t) (drop 2 (cs t)) (not-is other))
 
 returns-4 : tie.Need-returns-4
 returns-4 x =

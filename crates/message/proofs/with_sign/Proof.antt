@@ -4,9 +4,8 @@ use mathlib.Core.Bool.{true}
 use mathlib.Core.List.{[]}
 use borrow.Author.Tests.{not-true, not-false}
 use Rattle.refusal.proofs.Logic.{and-both}
-use Rattle.message.specs.declared.Scan.{Scan}
 use Rattle.message.specs.Message.{isAddress}
-use Rattle.message.specs.Scan.{step, scan, finish}
+use Rattle.message.specs.Prefix.{Prefix, extend, extendAll, finish}
 use Rattle.message.proofs.Places.{no-identifier, identifier}
 use borrow.Author.Needs.{needs}
 use Rattle.message.proofs.with_sign.Statement.{statement}
@@ -19,7 +18,7 @@ is-address : (c : tie.Else1) → isAddress (c .before .before .args .address) �
 is-address c = sym (c .before .is-address .ensures) ∙ not-false _ (c .if1 .left)
 
 returns : tie.Need-returns
-unfolding scan
+unfolding extendAll
 returns c =
     let a = c .before .before .args in
     sym (no-identifier (a .letter) (a .address) (a .identifier) (a .c) [] (rw (sym (c .before .is-address .ensures) ∙ not-true _ (c .if1 .taken))))
@@ -28,7 +27,7 @@ is-identifier-requires : tie.Need-is-identifier-requires
 is-identifier-requires c κs = search needs
 
 returns-2 : tie.Need-returns-2
-unfolding scan
+unfolding extendAll
 returns-2 c =
     let e = c .before .before in
     let a = e .before .before .args in
@@ -38,13 +37,13 @@ one-sign-requires : tie.Need-one-sign-requires
 one-sign-requires c κs = search needs
 
 returns-3 : tie.Need-returns-3
-unfolding step
+unfolding extend
 returns-3 c =
     let i = c .before in
     let e = i .before .before in
     let a = e .before .before .args in
     c .one-sign .ensures
-    ∙ sym (ap (λ (s : Scan). finish (step s (a .c))) (identifier (a .letter) (a .address) (a .identifier) (and-both (is-address e) (sym (i .before .is-identifier .ensures) ∙ not-false _ (i .if2 .left)))))
+    ∙ sym (ap (λ (s : Prefix). finish (extend s (a .c))) (identifier (a .letter) (a .address) (a .identifier) (and-both (is-address e) (sym (i .before .is-identifier .ensures) ∙ not-false _ (i .if2 .left)))))
 
 pub with-sign-spec : {M : Type 1} → statement M
 with-sign-spec =

@@ -1,4 +1,5 @@
 -- `message::with_two_digits` meets its contract: each byte is that of its character. Assumes nothing.
+use Rattle.wire.specs.Word.{travelling}
 use borrow.Author.Needs.{needs}
 use Rattle.message.proofs.with_two_digits.Statement.{statement}
 use Rattle.message.proofs.with_two_digits.Tie as tie
@@ -6,19 +7,23 @@ use Rattle.message.proofs.with_two_digits.Tie as tie
 with-parity-requires : tie.Need-with-parity-requires
 with-parity-requires c κs = search needs
 
-digit-with-parity-requires : tie.Need-digit-with-parity-requires
-digit-with-parity-requires c κs = search needs
-
-digit-with-parity-requires-2 : tie.Need-digit-with-parity-requires-2
-digit-with-parity-requires-2 c κs = search needs
-
 with-parity-requires-2 : tie.Need-with-parity-requires-2
 with-parity-requires-2 c κs = search needs
 
 with-parity-requires-3 : tie.Need-with-parity-requires-3
 with-parity-requires-3 c κs = search needs
 
+with-parity-requires-4 : tie.Need-with-parity-requires-4
+with-parity-requires-4 c κs = search needs
+
+with-parity-requires-5 : tie.Need-with-parity-requires-5
+with-parity-requires-5 c κs = search needs
+
+with-parity-requires-6 : tie.Need-with-parity-requires-6
+with-parity-requires-6 c κs = search needs
+
 returns : tie.Need-returns
+unfolding travelling
 returns c = cc
 
 pub with-two-digits-spec : {M : Type 1} → statement M
@@ -26,8 +31,9 @@ with-two-digits-spec =
     tie.close
     (tie.spec
     with-parity-requires
-    digit-with-parity-requires
-    digit-with-parity-requires-2
     with-parity-requires-2
     with-parity-requires-3
+    with-parity-requires-4
+    with-parity-requires-5
+    with-parity-requires-6
     returns)

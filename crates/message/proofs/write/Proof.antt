@@ -1,14 +1,13 @@
 -- `message::write` meets its contract: number 7 where it is no message, otherwise what the line of the message writes.
 -- Assumes nothing.
 use mathlib.Core.Path.{_≡_, sym, ap, _∙_}
-use mathlib.Core.Bool.{true, false}
-use mathlib.Core.List.{List}
+use mathlib.Core.List.{List, []}
 use Prim.Native.Nat.{ℕ}
-use Rattle.refusal.specs.Call.{Call, writes}
+use Rattle.refusal.specs.Call.{writes}
 use Rattle.wire.specs.Word.{travelling}
 use Rattle.wire.specs.Line.{bytesOf}
 use Rattle.wire.proofs.Lines.{line-bytes}
-use Rattle.message.specs.Spell.{spell, writeCall}
+use Rattle.message.specs.Spell.{spell}
 use Rattle.message.proofs.Spelling.{write-refused, write-served}
 use borrow.Author.Needs.{needs}
 use borrow.Author.Tests.{not-true, not-false}
@@ -21,8 +20,7 @@ is-message-requires c κs = search needs
 returns : tie.Need-returns
 returns c =
     let a = c .before .before .before .args in
-    let e = write-refused (a .message) (a .out .now) (sym (c .before .is-message .ensures) ∙ not-true _ (c .if1 .taken)) in
-    (sym (ap (λ (x : Call). x .outcome) e), sym (ap (λ (x : Call). x .buffer) e))
+    sym (write-refused (a .message) (a .out .now) (sym (c .before .is-message .ensures) ∙ not-true _ (c .if1 .taken)))
 
 spell-requires : tie.Need-spell-requires
 spell-requires c κs = search needs
@@ -37,11 +35,11 @@ returns-2 : tie.Need-returns-2
 returns-2 c =
     let t = c .before .before .before .before .before in
     let a = t .before .before .before .args in
-    let w = c .before .before .write in
     let line : bytesOf (c .before .before .before .before .spell .result) ≡ travelling (spell (a .message))
     = ap bytesOf (c .before .before .before .before .spell .ensures) ∙ line-bytes (spell (a .message)) in
-    let e = ap (λ (l : List ℕ). writes l (a .out .now)) line ∙ sym (write-served (a .message) (a .out .now) (sym (t .before .is-message .ensures) ∙ not-false _ (t .if1 .left))) in
-    (w .ensures .0 ∙ ap (λ (x : Call). x .outcome) e, w .ensures .1 ∙ ap (λ (x : Call). x .buffer) e)
+    c .before .before .write .ensures
+    ∙ ap (λ (l : List ℕ). writes [] l (a .out .now)) line
+    ∙ sym (write-served (a .message) (a .out .now) (sym (t .before .is-message .ensures) ∙ not-false _ (t .if1 .left)))
 
 pub write-spec : {M : Type 1} → statement M
 write-spec =

@@ -1,9 +1,10 @@
--- `models::dcp100_programmer` meets its contract: the lines are those of the definition, and `put_rows` lays them out. Assumes nothing.
-use Rattle.models.specs.Table.{sheetOf}
-use Rattle.models.specs.Dcp100Programmer.{dcp100Programmer}
+-- `models::dcp100_programmer` meets its contract: `programmer` gives the table, and `put_rows` lays its rows out. Assumes nothing.
 use borrow.Author.Needs.{needs}
 use Rattle.models.proofs.dcp100_programmer.Statement.{statement}
 use Rattle.models.proofs.dcp100_programmer.Tie as tie
+
+programmer-requires : tie.Need-programmer-requires
+programmer-requires c κs = search needs
 
 slice-aggregate-put-rows : tie.Need-slice-aggregate-put-rows
 slice-aggregate-put-rows c = search needs
@@ -15,10 +16,9 @@ put-rows-requires : tie.Need-put-rows-requires
 put-rows-requires c κs = search needs
 
 returns : tie.Need-returns
-unfolding sheetOf dcp100Programmer
-returns c = c .before .put-rows .ensures
+returns c = rw (c .before .before .before .before .programmer .ensures) at (c .before .put-rows .ensures)
 
 pub dcp100-programmer-spec : {M : Type 1} → statement M
 dcp100-programmer-spec =
     tie.close
-    (tie.spec slice-aggregate-put-rows slice-aggregate-put-rows-2 put-rows-requires returns)
+    (tie.spec programmer-requires slice-aggregate-put-rows slice-aggregate-put-rows-2 put-rows-requires returns)

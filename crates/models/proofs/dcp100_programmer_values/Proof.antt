@@ -1,11 +1,13 @@
--- `models::dcp100_programmer_values` meets its contract: the lines are those of the definition, and `put_values` fills them in. Assumes nothing.
+-- `models::dcp100_programmer_values` meets its contract: `programmer` gives the table, and `put_values` fills its values in. Assumes nothing.
 use mathlib.Core.Path.{refl}
-use Rattle.number.specs.Number.{inRange}
-use Rattle.models.specs.Table.{areCodes, filled, valuesOf}
-use Rattle.models.specs.Dcp100Programmer.{dcp100Programmer}
+use Rattle.models.specs.Table.{filled, valuesOf}
 use borrow.Author.Needs.{needs}
+use Rattle.models.proofs.Models.{dcp100-programmer-sound}
 use Rattle.models.proofs.dcp100_programmer_values.Statement.{statement}
 use Rattle.models.proofs.dcp100_programmer_values.Tie as tie
+
+programmer-requires : tie.Need-programmer-requires
+programmer-requires c κs = search needs
 
 slice-aggregate-put-values : tie.Need-slice-aggregate-put-values
 slice-aggregate-put-values c = search needs
@@ -14,14 +16,13 @@ slice-aggregate-put-values-2 : tie.Need-slice-aggregate-put-values-2
 slice-aggregate-put-values-2 c = search needs
 
 put-values-requires : tie.Need-put-values-requires
-unfolding areCodes inRange
-put-values-requires c κs = (refl, refl)
+put-values-requires c κs = (rw (c .before .before .programmer .ensures, dcp100-programmer-sound .codes), refl)
 
 returns : tie.Need-returns
-unfolding valuesOf filled dcp100Programmer
-returns c = c .before .put-values .ensures
+unfolding valuesOf filled
+returns c = rw (c .before .before .before .before .programmer .ensures) at (c .before .put-values .ensures)
 
 pub dcp100-programmer-values-spec : {M : Type 1} → statement M
 dcp100-programmer-values-spec =
     tie.close
-    (tie.spec slice-aggregate-put-values slice-aggregate-put-values-2 put-values-requires returns)
+    (tie.spec programmer-requires slice-aggregate-put-values slice-aggregate-put-values-2 put-values-requires returns)

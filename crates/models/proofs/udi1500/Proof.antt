@@ -1,9 +1,10 @@
--- `models::udi1500` meets its contract: the lines are those of the definition, and `put_rows` lays them out. Assumes nothing.
-use Rattle.models.specs.Table.{sheetOf}
-use Rattle.models.specs.Udi1500.{udi1500}
+-- `models::udi1500` meets its contract: `indicator` gives the table, and `put_rows` lays its rows out. Assumes nothing.
 use borrow.Author.Needs.{needs}
 use Rattle.models.proofs.udi1500.Statement.{statement}
 use Rattle.models.proofs.udi1500.Tie as tie
+
+indicator-requires : tie.Need-indicator-requires
+indicator-requires c κs = search needs
 
 slice-aggregate-put-rows : tie.Need-slice-aggregate-put-rows
 slice-aggregate-put-rows c = search needs
@@ -15,10 +16,9 @@ put-rows-requires : tie.Need-put-rows-requires
 put-rows-requires c κs = search needs
 
 returns : tie.Need-returns
-unfolding sheetOf udi1500
-returns c = c .before .put-rows .ensures
+returns c = rw (c .before .before .before .before .indicator .ensures) at (c .before .put-rows .ensures)
 
 pub udi1500-spec : {M : Type 1} → statement M
 udi1500-spec =
     tie.close
-    (tie.spec slice-aggregate-put-rows slice-aggregate-put-rows-2 put-rows-requires returns)
+    (tie.spec indicator-requires slice-aggregate-put-rows slice-aggregate-put-rows-2 put-rows-requires returns)

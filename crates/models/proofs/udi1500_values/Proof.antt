@@ -1,11 +1,13 @@
--- `models::udi1500_values` meets its contract: the lines are those of the definition, and `put_values` fills them in. Assumes nothing.
+-- `models::udi1500_values` meets its contract: `indicator` gives the table, and `put_values` fills its values in. Assumes nothing.
 use mathlib.Core.Path.{refl}
-use Rattle.number.specs.Number.{inRange}
-use Rattle.models.specs.Table.{areCodes, filled, valuesOf}
-use Rattle.models.specs.Udi1500.{udi1500}
+use Rattle.models.specs.Table.{filled, valuesOf}
 use borrow.Author.Needs.{needs}
+use Rattle.models.proofs.Models.{udi1500-sound}
 use Rattle.models.proofs.udi1500_values.Statement.{statement}
 use Rattle.models.proofs.udi1500_values.Tie as tie
+
+indicator-requires : tie.Need-indicator-requires
+indicator-requires c κs = search needs
 
 slice-aggregate-put-values : tie.Need-slice-aggregate-put-values
 slice-aggregate-put-values c = search needs
@@ -14,14 +16,13 @@ slice-aggregate-put-values-2 : tie.Need-slice-aggregate-put-values-2
 slice-aggregate-put-values-2 c = search needs
 
 put-values-requires : tie.Need-put-values-requires
-unfolding areCodes inRange
-put-values-requires c κs = (refl, refl)
+put-values-requires c κs = (rw (c .before .before .indicator .ensures, udi1500-sound .codes), refl)
 
 returns : tie.Need-returns
-unfolding valuesOf filled udi1500
-returns c = c .before .put-values .ensures
+unfolding valuesOf filled
+returns c = rw (c .before .before .before .before .indicator .ensures) at (c .before .put-values .ensures)
 
 pub udi1500-values-spec : {M : Type 1} → statement M
 udi1500-values-spec =
     tie.close
-    (tie.spec slice-aggregate-put-values slice-aggregate-put-values-2 put-values-requires returns)
+    (tie.spec indicator-requires slice-aggregate-put-values slice-aggregate-put-values-2 put-values-requires returns)

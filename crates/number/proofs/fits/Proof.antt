@@ -10,7 +10,9 @@ magnitude-requires c κs = search needs
 
 returns : tie.Need-returns
 unfolding fits
-returns c = simp (c .magnitude .ensures, rd-natAbs (c .before .fits .number))
+returns c =
+    let t = c .before .before in
+    simp (c .before .magnitude .ensures, rd-natAbs {x = t .before .args .x .number} (record { sfits = t .struct-told .given .0 .1 }))
 
 pub fits-spec : {M : Type 1} → statement M
 fits-spec = tie.close (tie.spec magnitude-requires returns)

@@ -29,8 +29,8 @@ last-digit-requires-5 c κs = search needs
 returns : tie.Need-returns
 unfolding spellData fiveDigits
 returns c =
-    let s = c .before .before .before .before .before .before .before in
-    cc (rd-is (s .fits .number))
+    let t = c .before .before .before .before .before .before .before .before in
+    cc (rd-is {z = t .before .args .x .number} (record { sfits = t .struct-told .given .0 .1 }))
 
 pub write-data-spec : {M : Type 1} → statement M
 write-data-spec =

@@ -1,5 +1,5 @@
 -- `reply::character_at` meets its contract: seven bits of the byte there, or 0. Assumes nothing.
-use mathlib.Core.Path.{_≡_, sym}
+use mathlib.Core.Path.{sym}
 use Rattle.reply.proofs.Reader.{character-in, character-out}
 use borrow.Author.Needs.{needs}
 use Rattle.reply.proofs.character_at.Statement.{statement}

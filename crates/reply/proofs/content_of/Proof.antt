@@ -1,7 +1,4 @@
 -- `reply::content_of` meets its contract: the arm taken says what was read. Assumes nothing.
-use mir.Syntax.{w32}
-use mir.Val.{SFits}
-use Rattle.number.proofs.Signed.{rd-is}
 use Rattle.reply.specs.Read.{contentOf}
 use borrow.Author.Needs.{needs}
 use Rattle.reply.proofs.content_of.Statement.{statement}
@@ -22,9 +19,7 @@ returns c = rw (c .enum-told .given .1)
 
 returns-2 : tie.Need-returns-2
 unfolding contentOf
-returns-2 c =
-    let f : SFits w32 (c .before .read .given .0 .0) = record { sfits = c .known-told .given .0 .1 } in
-    rw (c .before .read .given .1) (simp (rd-is f))
+returns-2 c = rw (c .before .read .given .1)
 
 returns-3 : tie.Need-returns-3
 unfolding contentOf

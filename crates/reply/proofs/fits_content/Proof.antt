@@ -1,9 +1,5 @@
 -- `reply::fits_content` meets its contract: the arms taken say what the content and the mark are. Assumes nothing.
-use mathlib.Core.Path.{_≡_, sym, ap, _∙_}
-use mir.Syntax.{w32}
-use mir.Val.{SFits}
-use Rattle.number.proofs.Signed.{rd-is}
-use Rattle.reply.specs.declared.Content.{Content}
+use mathlib.Core.Path.{sym, ap, _∙_}
 use Rattle.reply.proofs.Reader.{content-test}
 use Rattle.reply.specs.Reply.{fitsContent}
 use borrow.Author.Needs.{needs}
@@ -31,9 +27,8 @@ enum-told-4 c = search needs
 returns : tie.Need-returns
 returns c =
     let b = c .before .before .content .given in
-    let f : SFits w32 (b .0 .0) = record { sfits = c .before .known-told .given .0 .1 } in
     let a = c .before .before .before .before .args in
-    simp (c .fits2 .ensures, rd-is f) (sym (ap (fitsContent (a .identifier) (a .mark)) (b .1) ∙ content-test (a .identifier) (a .mark) (b .0 .0) (b .0 .1 .0)))
+    simp (c .fits2 .ensures) (sym (ap (fitsContent (a .identifier) (a .mark)) (b .1) ∙ content-test (a .identifier) (a .mark) (b .0 .0)))
 
 returns-2 : tie.Need-returns-2
 unfolding fitsContent

@@ -1,9 +1,9 @@
 -- `reply::guess` meets its contract: the test is the definition's. Assumes nothing.
-use mathlib.Core.Path.{_≡_, sym, ap, ap₂, _∙_}
+use mathlib.Core.Path.{sym, ap, ap₂, _∙_}
 use Prim.Native.Nat.{ℕ, _+_, _*_, _%_}
 use lib.ListN.{getD, drop}
 use Rattle.number.specs.Data.{isDigit, digitOf}
-use Rattle.reply.specs.Read.{charactersOf, guessBehind, guess}
+use Rattle.reply.specs.Read.{charactersOf, guessBehind}
 use Rattle.reply.proofs.Reader.{guess-one, guess-two}
 use borrow.Author.Needs.{needs}
 use Rattle.reply.proofs.guess.Statement.{statement}

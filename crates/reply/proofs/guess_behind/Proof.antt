@@ -1,10 +1,9 @@
 -- `reply::guess_behind` meets its contract: the characters are those of the definition. Assumes nothing.
-use mathlib.Core.Path.{_≡_, refl, sym, ap, ap₂, _∙_}
-use mathlib.Core.List.{List, [], _∷_}
-use Prim.Native.Nat.{ℕ, _+_}
+use mathlib.Core.Path.{_≡_, sym, ap, _∙_}
+use mathlib.Core.List.{[], _∷_}
+use Prim.Native.Nat.{ℕ}
 use native.Mathlib.Nat.{add-zero}
 use lib.ListN.{getD, drop}
-use Rattle.number.specs.declared.Data.{Data}
 use Rattle.number.specs.Data.{readData}
 use Rattle.reply.specs.Read.{charactersOf, guessMark, contentOf, five, guessBehind}
 use Rattle.reply.proofs.Reader.{character-behind, behind-status, behind-number}

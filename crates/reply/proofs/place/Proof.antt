@@ -1,88 +1,90 @@
--- `reply::place` meets its contract: without a number what is placed is the line's part, and with one the bytes around its five digits.
--- Assumes nothing.
-use mathlib.Core.Path.{sym, ap, _∙_}
-use borrow.Author.Needs.{needs}
-use lib.IntN.{ℤ}
-use lib.Seq.{length-take-le}
+-- `reply::place` meets its contract: there is room for the whole reply, and its parts stand one behind the other. Assumes nothing.
+use mathlib.Core.Path.{_≡_, sym, _∙_}
+use native.Mathlib.Omega.{arith}
+use lib.ListN.{length}
+use Rattle.refusal.specs.Refusal.{gave}
+use Rattle.refusal.proofs.Calls.{placed-call, unplaced-call, fits-at, fits-not}
 use Rattle.wire.specs.Word.{travelling}
-use Rattle.number.specs.Data.{spellData}
-use Rattle.number.proofs.Signed.{rd-is}
+use Rattle.wire.proofs.Words.{travelling-length}
 use Rattle.reply.specs.Reply.{spellAnswer}
-use Rattle.reply.proofs.Spelled.{number-spelled, counted-fits, counted-part, placed-outcome, placed-buffer}
+use Rattle.reply.proofs.Spelled.{answer-sum, answer-placed}
+use borrow.Author.Needs.{needs}
 use Rattle.reply.proofs.place.Statement.{statement}
 use Rattle.reply.proofs.place.Tie as tie
+
+spelled-len-requires : tie.Need-spelled-len-requires
+spelled-len-requires c κs = search needs
+
+-- the bytes are as many as the characters
+count : (s : tie.After-spelled-len) → length (travelling (spellAnswer (s .before .before .args .answer))) ≡ s .spelled-len .result
+count s = travelling-length (spellAnswer (s .before .before .args .answer)) ∙ sym (s .spelled-len .ensures)
+
+returns : tie.Need-returns
+returns c =
+    let a = c .before .before .before .args in
+    let n = count (c .before) in
+    sym (unplaced-call (travelling (spellAnswer (a .answer))) (a .at) (a .out .now) (fits-not (travelling (spellAnswer (a .answer))) (a .at) (a .out .now) (omega arith)))
+
+sub-if2 : tie.Need-sub-if2
+sub-if2 c = search needs
+
+returns-2 : tie.Need-returns-2
+returns-2 c =
+    let a = c .before .before .before .before .args in
+    let n = count (c .before .before) in
+    sym (unplaced-call (travelling (spellAnswer (a .answer))) (a .at) (a .out .now) (fits-not (travelling (spellAnswer (a .answer))) (a .at) (a .out .now) (omega arith)))
+
+place-front-requires : tie.Need-place-front-requires
+place-front-requires c κs =
+    let l = c .before .before .before in
+    omega (arith, l .spelled-len .ensures, answer-sum (l .before .before .args .answer))
+
+place-content-requires : tie.Need-place-content-requires
+place-content-requires c κs =
+    let f = c .before .before .before in
+    let l = f .before .before .before .before in
+    omega (arith, l .spelled-len .ensures, answer-sum (l .before .before .args .answer), f .place-front .ensures .0, f .place-front .kept)
 
 mark-of-requires : tie.Need-mark-of-requires
 mark-of-requires c κs = search needs
 
-enum-known-content : tie.Need-enum-known-content
-enum-known-content c = search needs
-
-enum-told : tie.Need-enum-told
-enum-told c = search needs
-
-spell-requires : tie.Need-spell-requires
-spell-requires c κs = search needs
-
-count-requires : tie.Need-count-requires
-count-requires c κs = search needs
-
-array-share-prefix-bytes : tie.Need-array-share-prefix-bytes
-array-share-prefix-bytes c = counted-fits (c .before .before .spell .result) (c .count .result) (c .count .ensures)
-
-slice-aggregate-place-all : tie.Need-slice-aggregate-place-all
-slice-aggregate-place-all c = sym (length-take-le _ _ (array-share-prefix-bytes (c .before)))
-
-place-all-requires : tie.Need-place-all-requires
-place-all-requires c κs = search needs
+place-end-requires : tie.Need-place-end-requires
+place-end-requires c κs =
+    let p = c .before .before .before .before in
+    let f = p .before .before .before .before in
+    let l = f .before .before .before .before in
+    omega (arith, l .spelled-len .ensures, answer-sum (l .before .before .args .answer), f .place-front .ensures .0, f .place-front .kept, p .place-content .ensures .0, p .place-content .kept)
 
 same-length : tie.Need-same-length
 same-length c = search needs
 
-returns : tie.Need-returns
-returns c =
-    let p = c .before .before in
-    let n = p .before .before .before in
-    let l = n .before .before in
-    let a = l .before .before .before .before .before .args in
-    let e = counted-part (l .spell .result) (spellAnswer (a .answer)) (n .count .result) (l .spell .ensures) (n .count .ensures) in
-    (p .place-all .ensures .0 ∙ placed-outcome e (a .at) (a .out .now), p .place-all .ensures .1 ∙ placed-buffer e (a .at) (a .out .now))
-
-write-data-requires : tie.Need-write-data-requires
-write-data-requires c κs = search needs
-
-place-data-requires : tie.Need-place-data-requires
-place-data-requires c κs = search needs
-
-same-length-2 : tie.Need-same-length-2
-same-length-2 c = search needs
-
-returns-2 : tie.Need-returns-2
-returns-2 c =
-    let p = c .before .before in
-    let w = p .before .before in
-    let n = w .before in
-    let k = n .before .before .before in
-    let a = k .before .before .args in
-    let o = n .before .content .given in
-    let e = number-spelled (a .answer) (o .0 .0) (o .0 .1 .0) _ _ (o .1) (w .write-data .ensures ∙ ap (λ (z : ℤ). spellData z (o .0 .1 .0)) (rd-is {z = o .0 .0} (record { sfits = n .known-told .given .0 .1 }))) (k .mark-of .ensures) in
-    (p .place-data .ensures .0 ∙ placed-outcome (ap travelling e) (a .at) (a .out .now), p .place-data .ensures .1 ∙ placed-buffer (ap travelling e) (a .at) (a .out .now))
+returns-3 : tie.Need-returns-3
+returns-3 c =
+    let e = c .before .before in
+    let m = e .before .before in
+    let p = m .before .before .before in
+    let f = p .before .before .before .before in
+    let l = f .before .before .before .before in
+    let a = l .before .before .args in
+    let xs = travelling (spellAnswer (a .answer)) in
+    let n = count l in
+    let whole = answer-placed (a .answer) (a .at) (a .out .now) _ _ _ _ _ (omega arith) (f .place-front .ensures .0) (f .place-front .ensures .1) (p .place-content .ensures .0) (p .place-content .ensures .1)
+    (e .place-end .ensures ∙ rw (m .mark-of .ensures)) in
+    let q = sym n in
+    (λ j. record { outcome = gave (q j); buffer = whole j })
+    ∙ sym (placed-call xs (a .at) (a .out .now) (fits-at xs (a .at) (a .out .now) (omega arith)))
 
 pub place-spec : {M : Type 1} → statement M
 place-spec =
     tie.close
     (tie.spec
-    mark-of-requires
-    enum-known-content
-    enum-told
-    spell-requires
-    count-requires
-    array-share-prefix-bytes
-    slice-aggregate-place-all
-    place-all-requires
-    same-length
+    spelled-len-requires
     returns
-    write-data-requires
-    place-data-requires
-    same-length-2
-    returns-2)
+    sub-if2
+    returns-2
+    place-front-requires
+    place-content-requires
+    mark-of-requires
+    place-end-requires
+    same-length
+    returns-3)

@@ -1,9 +1,7 @@
 -- `sheet::entry_of` meets its contract: a sound row is a whole one. Assumes nothing.
-use mathlib.Core.Path.{_≡_, refl, sym, ap, _∙_}
-use mathlib.Core.Bool.{true}
+use mathlib.Core.Path.{refl, sym, ap, _∙_}
 use borrow.Author.Needs.{needs}
 use Rattle.sheet.specs.declared.Entry.the-variants.{Found}
-use Rattle.sheet.specs.Sheet.{soundRow}
 use Rattle.sheet.specs.Values.{entryOf}
 use Rattle.sheet.proofs.Marks.{sound-whole}
 use Rattle.sheet.proofs.entry_of.Statement.{statement}

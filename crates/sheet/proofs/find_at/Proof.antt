@@ -6,7 +6,6 @@ use borrow.Author.Needs.{needs}
 use Prim.Native.Nat.{_+_}
 use lib.IntN.{ℤ}
 use lib.ListN.{length, getD}
-use Rattle.sheet.specs.declared.Entry.{Entry}
 use Rattle.sheet.specs.declared.Entry.the-variants.{Found, Missing}
 use Rattle.sheet.specs.Lookup.{partAt}
 use Rattle.sheet.specs.Values.{numbersOf, wholeRow, entryBy, entryAt}

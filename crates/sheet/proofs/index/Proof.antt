@@ -1,9 +1,8 @@
 -- `sheet::index` meets its contract: the maker's rows are marked first, and the bench's over them. Assumes nothing.
 use mathlib.Core.Path.{ap, _∙_}
-use mathlib.Core.List.{List}
-use Prim.Native.Nat.{ℕ}
 use borrow.Author.Needs.{needs}
-use Rattle.sheet.specs.Lookup.{marked, indexOf}
+use Rattle.sheet.specs.Inner.{marked}
+use Rattle.sheet.proofs.Marks.{marked-both}
 use Rattle.sheet.proofs.index.Statement.{statement}
 use Rattle.sheet.proofs.index.Tie as tie
 
@@ -23,11 +22,10 @@ mark-requires-2 : tie.Need-mark-requires-2
 mark-requires-2 c κs = search needs
 
 returns : tie.Need-returns
-unfolding indexOf
 returns c =
     let k = c .before in
     let a = k .before .before .before .before .before .args in
-    k .mark2 .ensures ∙ ap (marked (a .bench .now) 0) (k .before .before .before .mark .ensures)
+    k .mark2 .ensures ∙ ap (marked (a .bench .now) 0) (k .before .before .before .mark .ensures) ∙ marked-both (a .bench .now) (a .maker .now)
 
 pub index-spec : {M : Type 1} → statement M
 index-spec =

@@ -1,14 +1,13 @@
 -- `sheet::mark` meets its contract. The loop's invariant: all rows from k on are marked. Assumes nothing.
-use mathlib.Core.Path.{_≡_, sym, ap, _∙_, subst}
+use mathlib.Core.Path.{sym, ap, _∙_, subst}
 use mathlib.Core.List.{List}
 use Prim.Native.Nat.{ℕ, _+_, _-_}
 use native.Mathlib.Omega.{arith}
 use borrow.Author.Needs.{needs}
 use lib.IntN.{ℤ}
-use lib.ListN.{length}
 use Rattle.number.proofs.Signed.{rd-is}
 use Rattle.sheet.specs.Sheet.{at}
-use Rattle.sheet.specs.Lookup.{markedRow}
+use Rattle.sheet.specs.Inner.{markedRow}
 use Rattle.sheet.proofs.Marks.{Marked, marks, marks-more, marked-all}
 use Rattle.sheet.proofs.mark.Statement.{statement}
 use Rattle.sheet.proofs.mark.Tie as tie

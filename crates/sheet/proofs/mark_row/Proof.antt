@@ -1,19 +1,19 @@
 -- `sheet::mark_row` meets its contract: a code below zero or behind the end marks nothing. Assumes nothing.
-use mathlib.Core.Path.{_≡_, refl, sym, ap, _∙_, subst}
-use mathlib.Core.Bool.{true, false, false≢true}
+use mathlib.Core.Path.{_≡_, sym, ap, _∙_, subst}
+use mathlib.Core.Bool.{true, false}
 use mathlib.Core.List.{List}
 use Prim.Native.Nat.{ℕ}
 use native.Mathlib.Omega.{arith}
 use borrow.Author.Needs.{needs}
 use lib.Dec.{T}
-use lib.IntN.{ℤ, pos, negsuc, natAbs}
+use lib.IntN.{ℤ, pos, natAbs}
 use lib.Signed.{nonNeg, ltZ}
 use lib.ListN.{set}
 use lib.Seq.{set-out}
 use mir.Syntax.{w64}
 use mir.Val.{Fits}
 use Rattle.number.proofs.Signed.{rd, rd-is, natAbs-fits, below-zero, from-zero}
-use Rattle.sheet.specs.Lookup.{markedRow}
+use Rattle.sheet.specs.Inner.{markedRow}
 use Rattle.sheet.proofs.mark_row.Statement.{statement}
 use Rattle.sheet.proofs.mark_row.Tie as tie
 

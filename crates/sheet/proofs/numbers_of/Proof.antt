@@ -1,5 +1,5 @@
 -- `sheet::numbers_of` meets its contract: access and decimals are bytes, being in range. Assumes nothing.
-use mathlib.Core.Path.{_≡_, refl}
+use mathlib.Core.Path.{refl}
 use native.Mathlib.Omega.{arith}
 use lib.IntN.{pos}
 use Rattle.number.proofs.Signed.{rd-is}

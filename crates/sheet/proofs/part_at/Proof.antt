@@ -11,7 +11,7 @@ six-requires c κs = search needs
 
 returns : tie.Need-returns
 unfolding partAt
-returns c = c .six .ensures ∙ sym (rw (lt-ltb _ _ (c .before .if1 .taken)) refl)
+returns c = c .six .ensures .0 ∙ sym (rw (lt-ltb _ _ (c .before .if1 .taken)) refl)
 
 sub-six : tie.Need-sub-six
 sub-six c = search needs
@@ -21,7 +21,7 @@ six-requires-2 c κs = search needs
 
 returns-2 : tie.Need-returns-2
 unfolding partAt
-returns-2 c = c .six2 .ensures ∙ sym (rw (le-ltb _ _ (c .before .if1 .left)) refl)
+returns-2 c = c .six2 .ensures .0 ∙ sym (rw (le-ltb _ _ (c .before .if1 .left)) refl)
 
 pub part-at-spec : {M : Type 1} → statement M
 part-at-spec = tie.close (tie.spec six-requires returns sub-six six-requires-2 returns-2)

@@ -1,10 +1,11 @@
 -- `sheet::six` meets its contract: each return by the test that led there. Assumes nothing.
-use mathlib.Core.Path.{_≡_, sym, ap, _∙_}
-use Prim.Native.Nat.{ℕ, _+_, _-_}
+use mathlib.Core.Path.{_≡_, refl, sym, ap, _∙_}
+use Prim.Native.Nat.{ℕ, _+_, _-_, _≤_}
 use native.Mathlib.Omega.{arith}
 use borrow.Author.Needs.{needs}
 use lib.ListN.{length, take, drop, length-drop, drop-of-length-le}
 use lib.Seq.{take-all}
+use Rattle.sheet.specs.Lookup.{from}
 use Rattle.sheet.proofs.six.Statement.{statement}
 use Rattle.sheet.proofs.six.Tie as tie
 
@@ -25,7 +26,8 @@ returns c =
     let a = c .before .before .args in
     let s = a .sheet .now in
     let e : length s - length s ≡ 0 = omega arith in
-    ap (λ (n : ℕ). take n (drop (length s) s)) e ∙ sym (ap (take 6) (drop-of-length-le s (c .before .if1 .taken)))
+    let end : length s ≤ a .start → a .start ≤ length s → length s ≡ a .start = λ g h. omega arith in
+    (ap (λ (n : ℕ). take n (drop (length s) s)) e ∙ sym (ap (take 6) (drop-of-length-le s (c .before .if1 .taken))), λ h. ap (from (a .sheet .ptr)) (end (c .before .if1 .taken) h))
 
 sub-if2 : tie.Need-sub-if2
 sub-if2 c = search needs
@@ -46,8 +48,8 @@ returns-2 : tie.Need-returns-2
 returns-2 c =
     let a = c .before .before .before .args in
     let s = a .sheet .now in
-    let n = length-drop (a .from) s in
-    take-all (length s - a .from) (drop (a .from) s) (omega arith) ∙ sym (take-all 6 (drop (a .from) s) (omega arith))
+    let n = length-drop (a .start) s in
+    (take-all (length s - a .start) (drop (a .start) s) (omega arith) ∙ sym (take-all 6 (drop (a .start) s) (omega arith)), λ h. refl)
 
 add-end : tie.Need-add-end
 add-end c = search needs
@@ -67,8 +69,8 @@ part-result-end-3 c = search needs
 returns-3 : tie.Need-returns-3
 returns-3 c =
     let a = c .before .before .before .args in
-    let e : (a .from + 6) - a .from ≡ 6 = omega arith in
-    ap (λ (n : ℕ). take n (drop (a .from) (a .sheet .now))) e
+    let e : (a .start + 6) - a .start ≡ 6 = omega arith in
+    (ap (λ (n : ℕ). take n (drop (a .start) (a .sheet .now))) e, λ h. refl)
 
 pub six-spec : {M : Type 1} → statement M
 six-spec =

@@ -3,12 +3,13 @@ use mathlib.Core.Path.{_≡_, refl, sym, ap, _∙_}
 use mathlib.Core.Bool.{true, false, not, _&&_, false≢true}
 use native.Mathlib.Omega.{arith}
 use borrow.Author.Needs.{needs}
-use borrow.Author.Tests.{leb-false, le-leb}
+use borrow.Author.Tests.{le-leb}
 use lib.Dec.{eqb}
 use lib.IntN.{ℤ, pos, negsuc, natAbs}
 use Rattle.refusal.proofs.Logic.{by-test}
 use Rattle.number.specs.Number.{inRange}
 use Rattle.number.proofs.Signed.{rd-is}
+use Rattle.number.proofs.Cuts.{in-range-ends, ends-in-range}
 use Rattle.message.specs.Message.{isIdentifier}
 use Rattle.message.proofs.Messages.{plain-identifier}
 use Rattle.sheet.specs.Sheet.{soundIdentifier}
@@ -17,15 +18,16 @@ use Rattle.sheet.proofs.sound_identifier.Statement.{statement}
 use Rattle.sheet.proofs.sound_identifier.Tie as tie
 
 in-range : (x : ℤ) → inRange (pos 0) x (pos 127) ≡ true → (isIdentifier (natAbs x) && not (eqb (natAbs x) 63)) ≡ soundIdentifier x
-unfolding inRange soundIdentifier
+unfolding soundIdentifier
 in-range (pos n) e = refl
-in-range (negsuc n) e = absurd (false≢true e)
+in-range (negsuc n) e = absurd (false≢true (in-range-ends (pos 0) (negsuc n) (pos 127) e .0))
 
 outside : (x : ℤ) → inRange (pos 0) x (pos 127) ≡ false → false ≡ soundIdentifier x
-unfolding inRange
 outside (pos n) e =
     by-test (soundIdentifier (pos n))
-    (λ t. absurd (omega (arith, leb-false n 127 (rw (le-leb 0 n (omega arith)) at e), plain-identifier n (sound-code n t .0) .small)))
+    (λ t.
+    let h = plain-identifier n (sound-code n t .0) .small in
+    absurd (false≢true (sym e ∙ ends-in-range (pos 0) (pos n) (pos 127) (le-leb 0 n (omega arith)) (le-leb n 127 (omega arith)))))
     sym
 outside (negsuc n) e = unfold soundIdentifier in refl
 

@@ -3,7 +3,7 @@
 use Prim.Native.Nat.{_-_}
 use native.Mathlib.Omega.{arith}
 use lib.ListN.{length}
-use Rattle.wire.proofs.Lines.{Copied, copy-starts, copy-more, copy-ends}
+use Rattle.refusal.proofs.Buffers.{Copied, copy-starts, copy-more, copy-ends}
 use Rattle.wire.proofs.copy.Statement.{statement}
 use Rattle.wire.proofs.copy.Tie as tie
 
@@ -35,16 +35,16 @@ loop-again : tie.Need-loop-again Inv-loop μ-loop
 loop-again c =
     let l = c .before .before in
     let a = l .before .args in
-    copy-more (a .bytes .now) (a .out .now) (a .at) (l .loop .out) (l .loop .k) (l .loop .inv) (l .before .pre) (c .before .loop-test .taken)
+    copy-more 0 (a .bytes .now) (a .out .now) (a .at) (l .loop .out) (l .loop .k) (l .loop .inv) (l .before .pre) (c .before .loop-test .taken)
 
 same-length : tie.Need-same-length Inv-loop μ-loop
-same-length c = c .before .loop .inv .long
+same-length c = c .before .loop .inv .filling .long
 
 returns : tie.Need-returns Inv-loop μ-loop
 returns c =
     let l = c .before in
     let a = l .before .args in
-    copy-ends (a .bytes .now) (a .out .now) (a .at) (l .loop .out) (l .loop .k) (l .loop .inv) (l .before .pre) (c .loop-test .left)
+    copy-ends 0 (a .bytes .now) (a .out .now) (a .at) (l .loop .out) (l .loop .k) (l .loop .inv) (l .before .pre) (c .loop-test .left)
 
 pub copy-spec : {M : Type 1} → statement M
 copy-spec =

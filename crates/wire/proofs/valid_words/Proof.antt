@@ -6,7 +6,7 @@ use Prim.Native.Nat.{ℕ, _-_}
 use native.Mathlib.Omega.{arith}
 use lib.ListN.{length}
 use Rattle.wire.specs.Word.{validWords}
-use Rattle.wire.proofs.Words.{Tested, test-starts, test-more, test-ends}
+use Rattle.refusal.proofs.Lists.{Tested, test-starts, test-more, test-ends}
 use Rattle.wire.proofs.valid_words.Statement.{statement}
 use Rattle.wire.proofs.valid_words.Tie as tie
 
@@ -36,12 +36,12 @@ loop-less c = omega arith
 
 loop-again : tie.Need-loop-again Inv-loop μ-loop
 loop-again c =
-    let l = c .before .before in test-more is-word (l .before .args .words .now) (l .loop .inv) (c .before .loop-test .taken)
+    let l = c .before .before in test-more is-word 0 (l .before .args .words .now) (l .loop .inv) (c .before .loop-test .taken)
 
 returns : tie.Need-returns Inv-loop μ-loop
 unfolding validWords
 returns c =
-    let l = c .before in test-ends is-word (l .before .args .words .now) (l .loop .inv) (c .loop-test .left)
+    let l = c .before in test-ends is-word 0 (l .before .args .words .now) (l .loop .inv) (c .loop-test .left)
 
 pub valid-words-spec : {M : Type 1} → statement M
 valid-words-spec =

@@ -6,7 +6,7 @@ use crate::reference::card::{run, Card, Offer};
 use crate::reference::hearing::Open;
 use crate::reference::Refusal;
 
-/// Cards that are unsound in themselves, by row.
+/// Cards that are unsound whatever their offer and the sheets, by row.
 fn wrong_cards() -> Vec<Vec<i32>> {
     let row = |change: &[(usize, i32)]| {
         let mut row = row_of(&CARD).to_vec();
@@ -36,14 +36,24 @@ fn wrong_cards() -> Vec<Vec<i32>> {
         row(&[(2, 2), (3, 76), (4, 128)]),
         row(&[(2, 2), (3, 76), (4, -1)]),
         row(&[(2, 2), (3, 76), (4, 55), (5, 1)]),
-        row(&[(13, 2)]),
-        row(&[(13, -1)]),
-        row(&[(14, 109)]),
-        row(&[(15, 1)]),
-        row(&[(13, 1), (14, 109 + 256)]),
-        row(&[(13, 1), (14, -1)]),
     ]
 }
+
+/// The last three numbers of rows whose offer no Type 3 could leave: no offer at all, or an unsound one.
+const WRONG_OFFERS: [[i32; 3]; 12] = [
+    [1, 109, 1],
+    [1, 0, 0],
+    [1, 0, 20],
+    [1, 300, 20],
+    [1, 109 + 256, 20],
+    [1, -1, 20],
+    [2, 0, 0],
+    [2, 109, 20],
+    [-1, 109, 20],
+    [0, 109, 0],
+    [0, 0, 1],
+    [0, 300, 20],
+];
 
 fn wrong_offers() -> Vec<Offer> {
     [
@@ -63,88 +73,95 @@ fn wrong_offers() -> Vec<Offer> {
     .to_vec()
 }
 
+/// What is lent to one call, and the refusal that comes first whatever the room; 0 for none.
+#[derive(Clone)]
+struct Lent<'a> {
+    card: Vec<i32>,
+    bench: &'a [i32],
+    maker: &'a [i32],
+    values: Vec<i32>,
+    word: u16,
+    first: i64,
+}
+
+impl Lent<'_> {
+    fn step(&self, room: usize) {
+        let Lent { mut card, bench, maker, mut values, word, first } = self.clone();
+        let wanted = if first == 0 && room < 11 { 5 } else { first };
+        let mut out = vec![0xEE; room];
+        assert_eq!(calls::step(&mut card, bench, maker, &mut values, word, &mut out), -wanted);
+        assert!(out.iter().all(|&byte| byte == 0xEE));
+        if wanted != 0 {
+            assert_eq!((card, values), (self.card.clone(), self.values.clone()));
+        }
+    }
+
+    fn run(&self, room: usize, length: usize) {
+        let Lent { mut card, bench, maker, mut values, word, first } = self.clone();
+        let wanted = if first == 0 && length < 2 { 5 } else { first };
+        let (mut out, mut counts) = (vec![0xEE; room], vec![77; length]);
+        let words = [256, word, 0];
+        assert_eq!(calls::run(&mut card, bench, maker, &mut values, &words, &mut out, &mut counts), -wanted);
+        assert!(out.iter().all(|&byte| byte == 0xEE));
+        let written = if wanted == 0 { 2 } else { 0 };
+        assert_eq!(counts[..written], [3, 0][..written]);
+        assert!(counts[written..].iter().all(|&count| count == 77));
+        if wanted != 0 {
+            assert_eq!((card, values), (self.card.clone(), self.values.clone()));
+        }
+    }
+}
+
+/// Every set of faults in sheets, values and word, with a card whose faults come `before` or `behind` the sheets.
+fn try_refusals(card: &[i32], before: bool, behind: bool) {
+    let wrong_sheet = [74, 2, 1, 5, -100, 100, 74];
+    for number in 0..2 * 2 * 3 * 2 {
+        let (bench_fault, maker_fault) = (number % 2 == 1, number / 2 % 2 == 1);
+        let (values_fault, word_fault) = (number / 4 % 3, number / 12 == 1);
+        let mut values = values().to_vec();
+        match values_fault {
+            1 => values[usize::from(b'm')] = 21,
+            2 => values.push(0),
+            _ => {}
+        }
+        let tests = [
+            (before, 1),
+            (bench_fault || maker_fault, 2),
+            (behind, 1),
+            (values_fault != 0, 3),
+            (word_fault, 4),
+        ];
+        let lent = Lent {
+            card: card.to_vec(),
+            bench: if bench_fault { &wrong_sheet } else { &BENCH },
+            maker: if maker_fault { &wrong_sheet } else { &[] },
+            values,
+            word: if word_fault { 257 } else { 256 },
+            first: tests.iter().find(|test| test.0).map_or(0, |test| test.1),
+        };
+        for room in [0, 10, 11] {
+            lent.step(room);
+            (0..4).for_each(|length| lent.run(room, length));
+        }
+    }
+}
+
 /// Every refusal, every two and every more of them at once, for the single word and the run.
 #[test]
 fn order_of_refusals() {
-    let sound = [row_of(&CARD).to_vec(), {
-        let mut open = Open::NONE;
-        open.to_close(&words("L7m#00231"));
-        row_of(&Card { open, offer: Some(Offer { identifier: b'Z', value: 16 }), ..CARD }).to_vec()
-    }];
-    for card_faults in 0..2 {
-        for offer_fault in [false, true] {
-            for sheet_fault in 0..4 {
-                for values_fault in 0..3 {
-                    for word_fault in [false, true] {
-                        for room in [0, 10, 11] {
-                            let cards = if card_faults == 1 { wrong_cards() } else { sound.to_vec() };
-                            for mut card in cards {
-                                let mut offer = false;
-                                if offer_fault && card_faults == 0 {
-                                    card[13..].copy_from_slice(&[1, i32::from(b'm'), 1]);
-                                    offer = true;
-                                }
-                                let wrong_sheet = [74, 2, 1, 5, -100, 100, 74];
-                                let bench = if sheet_fault & 1 == 1 { &wrong_sheet[..] } else { &BENCH };
-                                let maker = if sheet_fault & 2 == 2 { &wrong_sheet[..] } else { &[] };
-                                let mut held = values().to_vec();
-                                match values_fault {
-                                    1 => held[usize::from(b'm')] = 21,
-                                    2 => held.push(0),
-                                    _ => {}
-                                }
-                                let word = if word_fault { 257 } else { 256 };
-                                let first = if card_faults == 1 {
-                                    1
-                                } else if sheet_fault != 0 {
-                                    2
-                                } else if offer {
-                                    1
-                                } else if values_fault != 0 {
-                                    3
-                                } else if word_fault {
-                                    4
-                                } else {
-                                    0
-                                };
-                                let short = if first == 0 && room < 11 { 5 } else { first };
-                                let before = (card.clone(), held.clone());
-
-                                let mut out = vec![0xEE; room];
-                                let got = calls::step(&mut card, bench, maker, &mut held, word, &mut out);
-                                assert_eq!(got, -short);
-                                assert!(out.iter().all(|&byte| byte == 0xEE));
-                                if short != 0 {
-                                    assert_eq!((&card, &held), (&before.0, &before.1));
-                                }
-
-                                for length in 0..4 {
-                                    let (mut card, mut held) = before.clone();
-                                    let mut counts = vec![77; length];
-                                    let short = if first == 0 && length < 2 { 5 } else { first };
-                                    let got = calls::run(
-                                        &mut card,
-                                        bench,
-                                        maker,
-                                        &mut held,
-                                        &[256, word, 0],
-                                        &mut out,
-                                        &mut counts,
-                                    );
-                                    assert_eq!(got, -short);
-                                    if short != 0 {
-                                        assert_eq!((&card, &held), (&before.0, &before.1));
-                                        assert!(counts.iter().all(|&count| count == 77));
-                                    } else {
-                                        assert_eq!(counts[..2], [3, 0]);
-                                        assert!(counts[2..].iter().all(|&count| count == 77));
-                                    }
-                                    assert!(out.iter().all(|&byte| byte == 0xEE));
-                                }
-                            }
-                        }
-                    }
+    let mut open = Open::NONE;
+    open.to_close(&words("L7m#00231"));
+    let offer = Some(Offer { identifier: b'Z', value: 16 });
+    let sound = [row_of(&CARD).to_vec(), row_of(&Card { open, offer, ..CARD }).to_vec()];
+    for (cards, before) in [(&sound[..], false), (&wrong_cards()[..], true)] {
+        for card in cards {
+            try_refusals(card, before, false);
+            for numbers in WRONG_OFFERS {
+                let mut card = card.clone();
+                if let Some(offer) = card.get_mut(13..16) {
+                    offer.copy_from_slice(&numbers);
                 }
+                try_refusals(&card, before, true);
             }
         }
     }

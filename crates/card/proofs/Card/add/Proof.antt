@@ -1,7 +1,6 @@
 -- `card::Card::add` meets its contract: only the open message changes. Assumes nothing.
-use mathlib.Core.Path.{ap, _∙_}
+use mathlib.Core.Path.{ap}
 use Rattle.hearing.specs.declared.Pending.{Pending}
-use Rattle.card.specs.declared.Card.{Card}
 use Rattle.card.specs.Turn.{withBoth}
 use borrow.Author.Needs.{needs}
 use Rattle.card.proofs.Card.add.Statement.{statement}
@@ -11,7 +10,10 @@ add-requires : tie.Need-add-requires
 add-requires c κs = search needs
 
 returns : tie.Need-returns
-returns c = ap (λ (p : Pending). withBoth (c .before .before .args .self) p (c .before .before .args .self .offer)) (c .add .ensures)
+returns c =
+    let a = c .before in
+    let s = a .before .before .args .self in
+    ap (λ (p : Pending). withBoth s p (s .offer)) (a .add .ensures)
 
 pub add-spec : {M : Type 1} → statement M
 add-spec = tie.close (tie.spec add-requires returns)

@@ -1,7 +1,6 @@
 -- `card::Card::close` meets its contract: only the open message changes. Assumes nothing.
-use mathlib.Core.Path.{ap, _∙_}
+use mathlib.Core.Path.{ap}
 use Rattle.hearing.specs.declared.Pending.{Pending}
-use Rattle.card.specs.declared.Card.{Card}
 use Rattle.card.specs.Turn.{withBoth}
 use borrow.Author.Needs.{needs}
 use Rattle.card.proofs.Card.close.Statement.{statement}
@@ -11,7 +10,10 @@ new-requires : tie.Need-new-requires
 new-requires c κs = search needs
 
 returns : tie.Need-returns
-returns c = ap (λ (p : Pending). withBoth (c .before .args .self) p (c .before .args .self .offer)) (c .new .ensures)
+returns c =
+    let n = c .before in
+    let s = n .before .args .self in
+    ap (λ (p : Pending). withBoth s p (s .offer)) (n .new .ensures)
 
 pub close-spec : {M : Type 1} → statement M
 close-spec = tie.close (tie.spec new-requires returns)

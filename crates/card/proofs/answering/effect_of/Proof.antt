@@ -1,17 +1,10 @@
 -- `card::effect_of` meets its contract: the arm says whether a message was heard, and the index gives its entry. Assumes nothing.
-use mathlib.Core.Path.{_≡_, sym, ap, _∙_}
+use mathlib.Core.Path.{sym, ap, _∙_}
 use borrow.Author.Needs.{needs}
-use Rattle.message.specs.declared.Parsed.{Parsed}
-use Rattle.hearing.specs.Hearing.{none}
-use Rattle.card.specs.declared.Card.{Card}
 use Rattle.card.specs.Turn.{effectOf}
 use Rattle.card.proofs.Turns.{effect-unheard, effect-index}
 use Rattle.card.proofs.answering.effect_of.Statement.{statement}
 use Rattle.card.proofs.answering.effect_of.Tie as tie
-
--- the card as far as it matters
-abbrev held : tie.Start → Card
-held s = record { letter = s .args .letter; address = s .args .address; pending = none; offer = s .args .offer }
 
 enum-known-parsed : tie.Need-enum-known-parsed
 enum-known-parsed c = search needs
@@ -23,8 +16,8 @@ returns : tie.Need-returns
 returns c =
     let s = c .before .before .before in
     let a = s .args in
-    effect-unheard (a .bench .now) (a .maker .now) (held s) (a .values .now)
-    ∙ ap (effectOf (a .bench .now) (a .maker .now) (held s) (a .values .now)) (sym (c .enum-told .given .1))
+    effect-unheard (a .bench .now) (a .maker .now) (a .setup) (a .offer) (a .values .now)
+    ∙ ap (effectOf (a .bench .now) (a .maker .now) (a .setup) (a .offer) (a .values .now)) (sym (c .enum-told .given .1))
 
 act-requires : tie.Need-act-requires
 act-requires c κs = search needs
@@ -36,8 +29,8 @@ returns-2 c =
     let a = s .args in
     let m = k .before .parsed .given in
     c .act .ensures
-    ∙ effect-index (a .bench .now) (a .maker .now) (held s) (a .values .now) (a .places .now) (m .0 .0) (s .pre .0) (s .pre .1) (s .pre .2)
-    ∙ ap (effectOf (a .bench .now) (a .maker .now) (held s) (a .values .now)) (sym (m .1))
+    ∙ effect-index (a .bench .now) (a .maker .now) (a .setup) (a .offer) (a .values .now) (a .places .now) (m .0 .0) (s .pre .0) (s .pre .1) (s .pre .2)
+    ∙ ap (effectOf (a .bench .now) (a .maker .now) (a .setup) (a .offer) (a .values .now)) (sym (m .1))
 
 pub effect-of-spec : {M : Type 1} → statement M
 effect-of-spec = tie.close (tie.spec enum-known-parsed enum-told returns act-requires returns-2)

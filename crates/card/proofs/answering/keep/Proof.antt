@@ -1,6 +1,5 @@
 -- `card::keep` meets its contract: a place behind the end is not there to be set. Assumes nothing.
-use mathlib.Core.Path.{_≡_, refl, sym, ap, ap₂, _∙_}
-use lib.IntN.{ℤ}
+use mathlib.Core.Path.{sym, ap, _∙_}
 use lib.ListN.{set}
 use lib.Seq.{set-out}
 use mir.Syntax.{w32}

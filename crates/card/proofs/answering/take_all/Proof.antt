@@ -1,59 +1,51 @@
 -- `card::take_all` meets its contract. The loop's invariant: what is played from here on, behind what is written, is what is played
 -- from the first word that closes a message on; a word that is left closes one; and the open message has ten places. Assumes nothing.
 use mathlib.Core.Path.{_≡_, refl, sym, ap, ap₂, _∙_, subst}
-use mathlib.Core.Bool.{true, false}
-use mathlib.Core.List.{List, []}
+use mathlib.Core.List.{List}
 use Prim.Native.Nat.{ℕ, _+_, _-_, _≤_, _<_}
 use native.Mathlib.Omega.{arith}
 use borrow.Author.Needs.{needs}
-use borrow.Author.Tests.{leb-true}
 use lib.IntN.{ℤ}
 use lib.ListN.{length, getD, drop}
-use Rattle.refusal.specs.declared.Written.{Written}
 use Rattle.refusal.specs.Refusal.{numberOf, outcomeOf}
-use Rattle.wire.specs.Line.{bytesOf, fitsAt, placed, placeCall}
+use Rattle.refusal.proofs.Calls.{Placed, placed-gave, Unplaced, placed-refused}
 use Rattle.message.specs.declared.Parsed.{Parsed}
-use Rattle.message.specs.Scan.{parse}
-use Rattle.hearing.specs.declared.Pending.{Pending}
-use Rattle.hearing.specs.declared.Stop.{Stop}
+use Rattle.message.specs.Prefix.{parse}
+use Rattle.hearing.specs.declared.Halt.{Halt}
 use Rattle.hearing.specs.Hearing.{Reached, none, openOf, hear, toClose}
 use Rattle.hearing.proofs.Close.{reached-in, reached-hears, reached-long}
+use Rattle.act.specs.declared.Setup.{Setup}
 use Rattle.act.specs.declared.Offer.{Offer}
-use Rattle.act.specs.declared.Effect.{Effect}
 use Rattle.card.specs.declared.Card.{Card}
 use Rattle.card.specs.declared.Ran.{Ran}
-use Rattle.card.specs.declared.Taken.the-variants.{Took}
-use Rattle.card.specs.Calls.{Ends}
-use Rattle.card.specs.Turn.{Turn, replyOf, effectOf, withBoth, turned, turn, Played, stopped, play}
-use Rattle.card.proofs.Turns.{effect-open, turn-closes}
-use Rattle.card.proofs.Runs.{gave-fits, refused-unfit, onward, Carried, starts, begins, turned as turned-on, carried-reached, no-room, ends, over}
+use Rattle.card.specs.declared.RunAnswer.the-variants.{Took}
+use Rattle.card.specs.Calls.{runAfter, ended}
+use Rattle.card.specs.Turn.{Turn, replyOf, withBoth, turned, turn, Played, stopped, play}
+use Rattle.card.proofs.Turns.{effects, turn-closes}
+use Rattle.card.proofs.Runs.{Carried, playedFrom, starts, begins, turned as turned-on, carried-reached, no-room, ends, over}
 use Rattle.card.proofs.answering.take_all.Statement.{statement}
 use Rattle.card.proofs.answering.take_all.Tie as tie
 
 -- where the code stands, and the card there
-abbrev reachedOf : List ℕ → Stop → Reached
-reachedOf chars stop = record { pending = record { chars = chars; len = stop .len }; at = stop .at }
+abbrev reachedOf : List ℕ → Halt → Reached
+reachedOf chars halt = record { pending = record { chars = chars; len = halt .len }; at = halt .at }
 
-abbrev cardOf : ℕ → ℕ → Offer → Reached → Card
-cardOf letter address offer r = record { letter = letter; address = address; pending = r .pending; offer = offer }
-
--- what is played from where the loop starts
-abbrev allOf : List ℤ → List ℤ → List ℤ → List ℕ → List ℕ → Card → ℕ → Played
-allOf bench maker values words out c i = onward [] i (play bench maker c values (length out) (drop i words))
+abbrev cardOf : Setup → Offer → Reached → Card
+cardOf setup offer r = record { setup = setup; pending = r .pending; offer = offer }
 
 -- a word that is left closes the message
 abbrev Closes : List ℕ → Reached → Type 0
 Closes words r = r .at < length words → hear (r .pending) (getD words (r .at) 0) ≡ record { pending = none; message = parse (openOf (r .pending)) }
 
 abbrev Inv-loop : tie.InvT-loop
-Inv-loop bench maker values₀ words out₀ letter address offer₀ chars₀ stop₀ places at₀ values out offer chars stop at =
-    Carried bench maker (allOf bench maker values₀ words out₀ (cardOf letter address offer₀ (reachedOf chars₀ stop₀)) (stop₀ .at)) values₀ out₀ words (cardOf letter address offer (reachedOf chars stop)) values out at (stop .at)
-    × Closes words (reachedOf chars stop)
+Inv-loop bench maker values₀ words out₀ setup offer₀ chars₀ halt₀ places at₀ values out offer chars halt at =
+    Carried bench maker (playedFrom bench maker values₀ out₀ words (cardOf setup offer₀ (reachedOf chars₀ halt₀)) (halt₀ .at)) values₀ out₀ words (cardOf setup offer (reachedOf chars halt)) values out at (halt .at)
+    × Closes words (reachedOf chars halt)
     × (length chars ≡ 10)
 
 abbrev μ-loop : tie.MeasureT-loop
-μ-loop bench maker values₀ words out₀ letter address offer₀ chars₀ stop₀ places at₀ values out offer chars stop at =
-    length words - stop .at
+μ-loop bench maker values₀ words out₀ setup offer₀ chars₀ halt₀ places at₀ values out offer chars halt at =
+    length words - halt .at
 
 to-close-requires : tie.Need-to-close-requires Inv-loop μ-loop
 to-close-requires c κs = search needs
@@ -67,7 +59,7 @@ index-requires c κs = search needs
 -- the first words are taken: what is played from there is what is played from the start
 module _ (t : tie.After-to-close Inv-loop μ-loop) where
   abbrev start : tie.Start Inv-loop μ-loop
-  start = t .before .before .before .before .before .before
+  start = t .before .before .before .before .before .before .before
 
   abbrev bench : List ℤ
   bench = start .args .bench .now
@@ -94,29 +86,27 @@ module _ (t : tie.After-to-close Inv-loop μ-loop) where
   is-first = ap₂ reachedOf (t .to-close .ensures .1) (t .to-close .ensures .0)
 
   abbrev all : Played
-  all = allOf bench maker values₀ words out₀ (cardOf (card₀ .letter) (card₀ .address) (card₀ .offer) first) (first .at)
+  all = playedFrom bench maker values₀ out₀ words (cardOf (card₀ .setup) (card₀ .offer) first) (first .at)
 
   is-all : play bench maker card₀ values₀ (length out₀) words ≡ all
-  is-all = starts bench maker card₀ values₀ out₀ words first is-first
+  is-all = starts bench maker values₀ out₀ words card₀ first is-first
 
-  begun : Carried bench maker all values₀ out₀ words (cardOf (card₀ .letter) (card₀ .address) (card₀ .offer) first) values₀ out₀ 0 (first .at)
+  begun : Carried bench maker all values₀ out₀ words (cardOf (card₀ .setup) (card₀ .offer) first) values₀ out₀ 0 (first .at)
   begun =
-      begins bench maker all values₀ out₀ words (cardOf (card₀ .letter) (card₀ .address) (card₀ .offer) first) (first .at)
-      (subst (λ (x : Reached). x .at ≤ length words) (sym is-first) (reached-in words (card₀ .pending) 0 (omega arith) .1)) refl
+      begins bench maker values₀ out₀ words (cardOf (card₀ .setup) (card₀ .offer) first) (first .at)
+      (subst (λ (x : Reached). x .at ≤ length words) (sym is-first) (reached-in words (card₀ .pending) 0 (omega arith) .1))
 
   -- nothing more is taken
   stops : (here : Card) (v : List ℤ) (out : List ℕ) (at i : ℕ) → Carried bench maker all values₀ out₀ words here v out at i
       → play bench maker here v (length out₀ - at) (drop i words) ≡ stopped here v
-      → (r : Ran) → r ≡ record { card = here; answer = Took i at }
-      → Ends (play bench maker card₀ values₀ (length out₀) words) out₀ r v out
+      → (r : Ran) → r ≡ record { card = here; answer = Took i at } → runAfter r v out ≡ ended (play bench maker card₀ values₀ (length out₀) words) out₀
   stops here v out at i k e r q =
-      subst (λ (x : Played). Ends x out₀ r v out) (sym is-all)
-      (subst (λ (x : Ran). Ends all out₀ x v out) (sym q) (over bench maker all values₀ out₀ words here v out at i k e))
+      ap (λ (x : Ran). runAfter x v out) q ∙ over bench maker all values₀ out₀ words here v out at i k e ∙ ap (λ (x : Played). ended x out₀) (sym is-all)
 
 returns : tie.Need-returns Inv-loop μ-loop
 returns c =
     let t = c .before .before .before in
-    let here = cardOf (card₀ t .letter) (card₀ t .address) (card₀ t .offer) (first t) in
+    let here = cardOf (card₀ t .setup) (card₀ t .offer) (first t) in
     stops t here (values₀ t) (out₀ t) 0 (first t .at) (begun t)
     (ends (bench t) (maker t) (all t) (values₀ t) (out₀ t) (words t) here (values₀ t) (out₀ t) 0 (first t .at) (begun t) (c .before .if1 .taken))
     (c .so-far .result) (c .so-far .ensures)
@@ -139,10 +129,10 @@ module _ (l : tie.At-loop Inv-loop μ-loop) where
   begin = l .before .before .before .before
 
   abbrev reached : Reached
-  reached = reachedOf (l .loop .chars) (l .loop .stop)
+  reached = reachedOf (l .loop .chars) (l .loop .halt)
 
   abbrev here : Card
-  here = cardOf (card₀ begin .letter) (card₀ begin .address) (l .loop .offer) reached
+  here = cardOf (card₀ begin .setup) (l .loop .offer) reached
 
 slice-aggregate-effect-of : tie.Need-slice-aggregate-effect-of Inv-loop μ-loop
 slice-aggregate-effect-of c = omega arith
@@ -164,22 +154,22 @@ module _ (e : tie.After-effect-of Inv-loop μ-loop) where
   abbrev leads : Turn
   leads = record { card = withBoth (here at-loop) none (e .effect-of .result .offer); reply = replyOf (e .effect-of .result .said); store = e .effect-of .result .store }
 
-  in-words : at-loop .loop .stop .at < length (words (begin at-loop))
+  in-words : at-loop .loop .halt .at < length (words (begin at-loop))
   in-words = e .before .before .before .before .before .if2 .taken
 
-  is-turn : leads ≡ turn (bench (begin at-loop)) (maker (begin at-loop)) (here at-loop) (at-loop .loop .values) (getD (words (begin at-loop)) (at-loop .loop .stop .at) 0)
+  is-turn : leads ≡ turn (bench (begin at-loop)) (maker (begin at-loop)) (here at-loop) (at-loop .loop .values) (getD (words (begin at-loop)) (at-loop .loop .halt .at) 0)
   unfolding turned openOf
   is-turn =
       let t = begin at-loop in
       let v = at-loop .loop .values in
-      ap (turned (here at-loop) none) (e .effect-of .ensures ∙ effect-open (bench t) (maker t) (here at-loop) v (e .before .closed .result))
-      ∙ ap (λ (o : Parsed). turned (here at-loop) none (effectOf (bench t) (maker t) (here at-loop) v o)) (e .before .closed .ensures)
-      ∙ sym (turn-closes (bench t) (maker t) (here at-loop) v (getD (words t) (at-loop .loop .stop .at) 0) _ (at-loop .loop .inv .1 in-words))
+      ap (turned (here at-loop) none) (e .effect-of .ensures)
+      ∙ ap (λ (o : Parsed). turned (here at-loop) none (effects (bench t) (maker t) (here at-loop) v o)) (e .before .closed .ensures)
+      ∙ sym (turn-closes (bench t) (maker t) (here at-loop) v (getD (words t) (at-loop .loop .halt .at) 0) _ (at-loop .loop .inv .1 in-words))
 
 say-requires : tie.Need-say-requires Inv-loop μ-loop
 say-requires c κs =
     let l = at-loop (c .before) in
-    omega (arith, l .loop .inv .0 .at-in, l .loop .inv .0 .out-long)
+    omega (arith, l .loop .inv .0 .at-in, l .loop .inv .0 .filling .long)
 
 -- what is said, and whether it fits
 module _ (s : tie.After-say Inv-loop μ-loop) where
@@ -187,7 +177,7 @@ module _ (s : tie.After-say Inv-loop μ-loop) where
   effect = s .before .before
 
   abbrev bytes : List ℕ
-  bytes = bytesOf (replyOf (effect .effect-of .result .said))
+  bytes = replyOf (effect .effect-of .result .said)
 
   abbrev to : ℕ
   to = at-loop effect .loop .at
@@ -208,22 +198,18 @@ module _ (k : tie.After-known-told Inv-loop μ-loop) where
   abbrev n : ℕ
   n = k .before .n .given .0 .0
 
-  fits : (fitsAt (bytes said) (to said) (out said) ≡ true) × (n ≡ length (bytes said)) × (placeCall (bytes said) (to said) (out said) .buffer ≡ placed (bytes said) (to said) (out said))
-  fits = gave-fits (bytes said) (to said) (out said) n (sym (ap outcomeOf (k .before .n .given .1)) ∙ said .say .ensures .0)
+  fits : Placed (bytes said) (to said) (out said) (said .say .last .1 .0) n
+  fits = placed-gave (bytes said) (to said) (out said) n _ (said .say .ensures) (ap outcomeOf (k .before .n .given .1))
 
   room : to said + n ≤ length (out said)
-  unfolding fitsAt
-  room = omega (arith, fits .1, leb-true (to said + length (bytes said)) (length (out said)) (fits .0))
+  room = omega (arith, fits .count, fits .room)
 
 module _ (c : tie.After-enum-told Inv-loop μ-loop) where
   abbrev unsaid : tie.After-say Inv-loop μ-loop
   unsaid = c .before .before .before .before
 
-  unfit : (fitsAt (bytes unsaid) (to unsaid) (out unsaid) ≡ false) × (placeCall (bytes unsaid) (to unsaid) (out unsaid) .buffer ≡ out unsaid)
-  unfit = refused-unfit (bytes unsaid) (to unsaid) (out unsaid) (numberOf (c .enum-told .given .0 .0)) (sym (ap outcomeOf (c .enum-told .given .1)) ∙ unsaid .say .ensures .0)
-
-  unplaced : unsaid .say .last .1 .0 ≡ out unsaid
-  unplaced = unsaid .say .ensures .1 ∙ unfit .1
+  unfit : Unplaced (bytes unsaid) (to unsaid) (out unsaid) (unsaid .say .last .1 .0)
+  unfit = placed-refused (bytes unsaid) (to unsaid) (out unsaid) (numberOf (c .enum-told .given .0 .0)) _ (unsaid .say .ensures) (ap outcomeOf (c .enum-told .given .1))
 
 so-far-requires-2 : tie.Need-so-far-requires-2 Inv-loop μ-loop
 so-far-requires-2 c κs = search needs
@@ -232,7 +218,7 @@ same-length : tie.Need-same-length Inv-loop μ-loop
 same-length c = at-loop (effect (unsaid (c .before))) .loop .inv .0 .values-long
 
 same-length-2 : tie.Need-same-length-2 Inv-loop μ-loop
-same-length-2 c = ap length (unplaced (c .before)) ∙ at-loop (effect (unsaid (c .before))) .loop .inv .0 .out-long
+same-length-2 c = ap length (unfit (c .before) .leaves) ∙ at-loop (effect (unsaid (c .before))) .loop .inv .0 .filling .long
 
 returns-2 : tie.Need-returns-2 Inv-loop μ-loop
 returns-2 c =
@@ -240,16 +226,16 @@ returns-2 c =
     let e = effect s in
     let l = at-loop e in
     let t = begin l in
-    subst (Ends (play (bench t) (maker t) (card₀ t) (values₀ t) (length (out₀ t)) (words t)) (out₀ t) (c .so-far2 .result) (l .loop .values)) (sym (unplaced (c .before)))
-    (stops t (here l) (l .loop .values) (l .loop .out) (l .loop .at) (l .loop .stop .at) (l .loop .inv .0)
-    (no-room (bench t) (maker t) (all t) (values₀ t) (out₀ t) (words t) (here l) (l .loop .values) (l .loop .out) (l .loop .at) (l .loop .stop .at) (l .loop .inv .0)
-    (leads e) (is-turn e) (length (bytes s)) (bytes s) refl refl (in-words e) (unfit (c .before) .0))
-    (c .so-far2 .result) (c .so-far2 .ensures))
+    ap (λ (o : List ℕ). runAfter (c .so-far2 .result) (l .loop .values) o) (unfit (c .before) .leaves)
+    ∙ stops t (here l) (l .loop .values) (l .loop .out) (l .loop .at) (l .loop .halt .at) (l .loop .inv .0)
+    (no-room (bench t) (maker t) (all t) (values₀ t) (out₀ t) (words t) (here l) (l .loop .values) (l .loop .out) (l .loop .at) (l .loop .halt .at) (l .loop .inv .0)
+    (leads e) (is-turn e) (in-words e) (omega (arith, unfit (c .before) .short, l .loop .inv .0 .filling .long)))
+    (c .so-far2 .result) (c .so-far2 .ensures)
 
 add-at : tie.Need-add-at Inv-loop μ-loop
 add-at c =
     let l = at-loop (effect (said c)) in
-    omega (arith, room c, l .loop .inv .0 .out-long, start (begin l) .good .1 .1 .1 .1 .1 .0)
+    omega (arith, room c, l .loop .inv .0 .filling .long, start (begin l) .good .1 .1 .1 .1 .1 .0)
 
 keep-requires : tie.Need-keep-requires Inv-loop μ-loop
 keep-requires c κs = search needs
@@ -274,7 +260,7 @@ module _ (c : tie.After-to-close2 Inv-loop μ-loop) where
   loop = at-loop (effect (said answered))
 
   abbrev from : ℕ
-  from = loop .loop .stop .at + 1
+  from = loop .loop .halt .at + 1
 
   abbrev next : Reached
   next = reachedOf (c .to-close2 .last .0) (c .to-close2 .result)
@@ -300,13 +286,13 @@ loop-again c =
     let e = effect s in
     let l = loop c in
     let t = begin l in
-    let i = l .loop .stop .at in
+    let i = l .loop .halt .at in
     let v = kept c .keep .last .0 in
     let o = s .say .last .1 .0 in
     let turned-here =
     turned-on (bench t) (maker t) (all t) (values₀ t) (out₀ t) (words t) (here l) (l .loop .values) (l .loop .out) (l .loop .at) i (l .loop .inv .0)
-    (leads e) (is-turn e) (n k) (bytes s) (fits k .1) refl (in-words e)
-    v o (fits k .0) (kept c .keep .ensures) (kept c .keep .kept .0) (s .say .ensures .1 ∙ fits k .2) in (
+    (leads e) (is-turn e) (in-words e)
+    v o (n k) (fits k .count) (omega (arith, room k, l .loop .inv .0 .filling .long)) (kept c .keep .ensures) (kept c .keep .kept .0) (fits k .leaves) in (
       carried-reached (bench t) (maker t) (all t) (values₀ t) (out₀ t) (words t) (leads e .card) v o (l .loop .at + n k) (i + 1) turned-here (next c) (is-next c),
       subst (Closes (words t)) (sym (is-next c)) (reached-hears (words t) none (i + 1)),
       ten c,
@@ -319,14 +305,14 @@ same-length-3 : tie.Need-same-length-3 Inv-loop μ-loop
 same-length-3 c = c .before .before .before .loop .inv .0 .values-long
 
 same-length-4 : tie.Need-same-length-4 Inv-loop μ-loop
-same-length-4 c = c .before .before .before .loop .inv .0 .out-long
+same-length-4 c = c .before .before .before .loop .inv .0 .filling .long
 
 returns-3 : tie.Need-returns-3 Inv-loop μ-loop
 returns-3 c =
     let l = c .before .before .before in
     let t = begin l in
-    stops t (here l) (l .loop .values) (l .loop .out) (l .loop .at) (l .loop .stop .at) (l .loop .inv .0)
-    (ends (bench t) (maker t) (all t) (values₀ t) (out₀ t) (words t) (here l) (l .loop .values) (l .loop .out) (l .loop .at) (l .loop .stop .at) (l .loop .inv .0) (c .before .if2 .left))
+    stops t (here l) (l .loop .values) (l .loop .out) (l .loop .at) (l .loop .halt .at) (l .loop .inv .0)
+    (ends (bench t) (maker t) (all t) (values₀ t) (out₀ t) (words t) (here l) (l .loop .values) (l .loop .out) (l .loop .at) (l .loop .halt .at) (l .loop .inv .0) (c .before .if2 .left))
     (c .so-far3 .result) (c .so-far3 .ensures)
 
 pub take-all-spec : {M : Type 1} → statement M

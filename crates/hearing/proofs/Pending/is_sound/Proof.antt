@@ -1,9 +1,9 @@
 -- `hearing::Pending::is_sound` meets its contract: the tests are the definition's. Assumes nothing.
 use mathlib.Core.Path.{_≡_, sym, ap, ap₂, _∙_}
-use mathlib.Core.Bool.{Bool, true, false, _&&_}
-use Prim.Native.Nat.{_≤_, _-_}
+use mathlib.Core.Bool.{Bool, _&&_}
+use Prim.Native.Nat.{_-_}
 use native.Mathlib.Omega.{arith}
-use borrow.Author.Tests.{le-leb, lt-leb, not-true, not-false}
+use borrow.Author.Tests.{le-leb, lt-leb}
 use lib.ListN.{length, take, drop, length-drop}
 use lib.Seq.{length-take-le, take-all}
 use Rattle.hearing.specs.Sound.{plain, zeros, soundPending}
@@ -51,23 +51,17 @@ was z =
     (ap₂ (λ (x y : Bool). x && y) (z .before .before .before .plain .ensures)
     (z .zeros .ensures ∙ ap zeros (take-all (10 - p .len) (drop (p .len) (p .chars)) (omega (arith, length-drop (p .len) (p .chars))))))
 
-returns-2 : tie.Need-returns-2
-unfolding soundPending
-returns-2 c =
-    let z = c .before in
-    rw (le-leb _ _ (z .before .before .before .before .before .if1 .left)) (rw (was z ∙ not-true _ (c .if2 .taken)))
-
 array-read-is-letter : tie.Need-array-read-is-letter
 array-read-is-letter c = search needs
 
 is-letter-requires : tie.Need-is-letter-requires
 is-letter-requires c κs = search needs
 
-returns-3 : tie.Need-returns-3
+returns-2 : tie.Need-returns-2
 unfolding soundPending
-returns-3 c =
-    let z = c .before .before in
-    simp (le-leb _ _ (z .before .before .before .before .before .if1 .left), was z ∙ not-false _ (c .before .if2 .left), c .is-letter .ensures)
+returns-2 c =
+    let z = c .before in
+    simp (le-leb _ _ (z .before .before .before .before .before .if1 .left), was z, c .is-letter .ensures)
 
 pub is-sound-spec : {M : Type 1} → statement M
 is-sound-spec =
@@ -80,7 +74,6 @@ is-sound-spec =
     part-zeros-start
     part-zeros-end
     zeros-requires
-    returns-2
     array-read-is-letter
     is-letter-requires
-    returns-3)
+    returns-2)

@@ -1,9 +1,10 @@
 -- `hearing::copy` meets its contract. The loop's invariant: the first k bytes are in their places, and nothing else has changed.
 -- Assumes nothing.
+use mathlib.Core.Path.{refl}
 use Prim.Native.Nat.{_-_}
 use native.Mathlib.Omega.{arith}
 use lib.ListN.{length}
-use Rattle.wire.proofs.Lines.{Copied, copy-starts, copy-more, copy-ends}
+use Rattle.refusal.proofs.Buffers.{Copied, copy-starts, copy-more, copy-ends}
 use Rattle.hearing.proofs.passes.copy.Statement.{statement}
 use Rattle.hearing.proofs.passes.copy.Tie as tie
 
@@ -41,16 +42,19 @@ loop-again : tie.Need-loop-again Inv-loop μ-loop
 loop-again c =
     let l = c .before .before in
     let a = l .before .args in
-    copy-more (a .bytes .now) (a .out .now) (a .at) (l .loop .out) (l .loop .k) (l .loop .inv) (l .before .pre) (c .before .loop-test .taken)
+    copy-more 0 (a .bytes .now) (a .out .now) (a .at) (l .loop .out) (l .loop .k) (l .loop .inv) (l .before .pre) (c .before .loop-test .taken)
+
+add-result : tie.Need-add-result Inv-loop μ-loop
+add-result c = omega arith
 
 same-length : tie.Need-same-length Inv-loop μ-loop
-same-length c = c .before .loop .inv .long
+same-length c = c .before .loop .inv .filling .long
 
 returns : tie.Need-returns Inv-loop μ-loop
 returns c =
     let l = c .before in
     let a = l .before .args in
-    copy-ends (a .bytes .now) (a .out .now) (a .at) (l .loop .out) (l .loop .k) (l .loop .inv) (l .before .pre) (c .loop-test .left)
+    (refl, copy-ends 0 (a .bytes .now) (a .out .now) (a .at) (l .loop .out) (l .loop .k) (l .loop .inv) (l .before .pre) (c .loop-test .left))
 
 pub copy-spec : {M : Type 1} → statement M
 copy-spec =
@@ -67,5 +71,6 @@ copy-spec =
     add-k
     loop-less
     loop-again
+    add-result
     same-length
     returns)

@@ -1,9 +1,9 @@
 -- `hearing::count_of` meets its contract: the arm taken says what was heard. Assumes nothing.
-use mathlib.Core.Path.{_≡_, sym, ap, _∙_}
+use mathlib.Core.Path.{sym, ap, _∙_}
 use lib.ListN.{length}
 use Rattle.wire.proofs.Words.{travelling-length}
 use Rattle.message.specs.declared.Parsed.{Parsed}
-use Rattle.hearing.specs.Normal.{worth}
+use Rattle.hearing.specs.Inner.{worth}
 use borrow.Author.Needs.{needs}
 use Rattle.hearing.proofs.passes.count_of.Statement.{statement}
 use Rattle.hearing.proofs.passes.count_of.Tie as tie

@@ -1,113 +1,85 @@
--- `hearing::fill` meets its contract. The loop's invariant: what is written and what is still to come are the whole, and what
--- lies behind is as it was. Assumes nothing.
-use mathlib.Core.Path.{_≡_, refl, sym, ap, ap₂, _∙_, subst}
+-- `hearing::fill` meets its contract. The loop's invariant: what is still to come, behind what is written, is the whole.
+-- Assumes nothing.
+use mathlib.Core.Path.{_≡_, ap}
 use mathlib.Core.List.{List}
-use Prim.Native.Nat.{ℕ, _+_, _-_, _<_, _≤_}
+use Prim.Native.Nat.{ℕ, _-_, _≤_}
 use native.Mathlib.Omega.{arith}
-use lib.ListN.{length, take, drop}
-use Rattle.message.specs.Scan.{parse}
-use Rattle.hearing.specs.declared.Stop.{Stop}
-use Rattle.hearing.specs.Hearing.{none, openOf}
-use Rattle.hearing.proofs.Close.{reached-in, reached-long}
-use Rattle.hearing.proofs.Loops.{next, normal-over, normal-past, Filled, fills, filled, has-room, fill-ends}
+use lib.ListN.{length}
+use Rattle.hearing.specs.declared.passes.Closing.{Closing}
+use Rattle.hearing.specs.Inner.{nextClosed}
+use Rattle.hearing.proofs.Loops.{normal-over, normal-past, closed-behind, Writing, writing-begins, writing-goes-on, has-room, writing-ends}
 use Rattle.hearing.proofs.passes.fill.Statement.{statement}
 use Rattle.hearing.proofs.passes.fill.Tie as tie
 
 abbrev Inv-loop : tie.InvT-loop
-Inv-loop words out₀ at₀ i₀ out at i = Filled words out₀ out at i
+Inv-loop words out₀ at₀ i₀ out at i = Writing words out₀ out at i
 
 abbrev μ-loop : tie.MeasureT-loop
 μ-loop words out₀ at₀ i₀ out at i = length words - i
 
 loop-holds : tie.Need-loop-holds Inv-loop μ-loop
-loop-holds c = let a = c .before .before .args in fills (a .words .now) (a .out .now)
+loop-holds c = let a = c .before .before .args in writing-begins (a .words .now) (a .out .now)
 
-to-close-requires : tie.Need-to-close-requires Inv-loop μ-loop
-to-close-requires c κs = tt
+next-closed-requires : tie.Need-next-closed-requires Inv-loop μ-loop
+next-closed-requires c κs = tt
 
-closed-requires : tie.Need-closed-requires Inv-loop μ-loop
-closed-requires c κs = tt
-
--- where the words reach, as the code has it
-module _ (t : tie.After-to-close Inv-loop μ-loop) where
-  abbrev at-loop : tie.At-loop Inv-loop μ-loop
-  at-loop = t .before .before .before
-
+-- the loop
+module _ (l : tie.At-loop Inv-loop μ-loop) where
   abbrev words : List ℕ
-  words = at-loop .before .before .before .args .words .now
+  words = l .before .before .before .args .words .now
 
   abbrev out₀ : List ℕ
-  out₀ = at-loop .before .before .before .args .out .now
+  out₀ = l .before .before .before .args .out .now
 
-  at-is : t .to-close .result .at ≡ next words (at-loop .loop .i) .at
-  unfolding none
-  at-is = ap (λ (s : Stop). s .at) (t .to-close .ensures .0)
+-- a message is closed behind where the words begin
+module _ (k : tie.After-next-closed Inv-loop μ-loop) where
+  abbrev at-loop : tie.At-loop Inv-loop μ-loop
+  at-loop = k .before .before
 
-  ten : length (t .to-close .last .0) ≡ 10
-  unfolding none
-  ten = ap length (t .to-close .ensures .1) ∙ reached-long words none (at-loop .loop .i) refl
+  at-is : k .next-closed .result .at ≡ nextClosed (words at-loop) (at-loop .loop .i) .at
+  at-is = ap (λ (x : Closing). x .at) (k .next-closed .ensures)
 
-slice-aggregate-closed : tie.Need-slice-aggregate-closed Inv-loop μ-loop
-slice-aggregate-closed c = sym (ten (c .before .before .before))
-
--- a message is closed
-module _ (m : tie.After-closed Inv-loop μ-loop) where
-  abbrev closing : tie.After-to-close Inv-loop μ-loop
-  closing = m .before .before .before .before
-
-  stopped : closing .to-close .result .at < length (words closing)
-  stopped = m .before .before .if1 .left
-
-  before-end : next (words closing) (at-loop closing .loop .i) .at < length (words closing)
-  before-end = omega (arith, at-is closing, stopped)
-
-  closed-is : m .closed .result ≡ parse (openOf (next (words closing) (at-loop closing .loop .i) .pending))
-  unfolding none openOf
-  closed-is = m .closed .ensures ∙ ap₂ (λ (s : Stop) (x : List ℕ). parse (take (s .len) x)) (closing .to-close .ensures .0) (closing .to-close .ensures .1)
+  behind : at-loop .loop .i ≤ k .next-closed .result .at
+  behind = omega (arith, at-is, closed-behind (words at-loop) (at-loop .loop .i) (at-loop .loop .inv .i-in))
 
 put-requires : tie.Need-put-requires Inv-loop μ-loop
 put-requires c κs =
-    let m = c .before in
-    let t = closing m in
-    let l = at-loop t in
-    has-room (words t) (out₀ t) (l .loop .out) (l .loop .at) (l .loop .i) (l .loop .inv) (before-end m) (m .closed .result) (closed-is m) (l .before .before .before .pre)
+    let e = c .before in
+    let k = e .before in
+    let l = at-loop k in
+    has-room (words l) (out₀ l) (l .loop .out) (l .loop .at) (l .loop .i) (l .loop .inv) (k .next-closed .result) (k .next-closed .ensures) (e .if1 .left) (l .before .before .before .pre)
 
 add-i : tie.Need-add-i Inv-loop μ-loop
-add-i c = omega (arith, stopped (c .before .before .before .before .before))
+add-i c = let e = c .before .before .before .before in omega (arith, e .if1 .left)
 
 loop-less : tie.Need-loop-less Inv-loop μ-loop
-loop-less c =
-    let m = c .before .before .before .before .before in
-    let t = closing m in
-    omega (arith, stopped m, at-is t, reached-in (words t) none (at-loop t .loop .i) (at-loop t .loop .inv .i-in) .0)
+loop-less c = let e = c .before .before .before .before in omega (arith, e .if1 .left, behind (e .before))
 
 loop-again : tie.Need-loop-again Inv-loop μ-loop
 loop-again c =
-    let p = c .before .before .before in
-    let m = p .before .before in
-    let t = closing m in
-    let l = at-loop t in
-    subst (λ (k : ℕ). Filled (words t) (out₀ t) (p .put .last .1 .0) (p .put .result) (k + 1)) (sym (at-is t))
-    (filled (words t) (out₀ t) (l .loop .out) (l .loop .at) (l .loop .i) (l .loop .inv) (before-end m) (m .closed .result) (closed-is m)
-    (p .put .last .1 .0) (p .put .result) (l .before .before .before .pre) (p .put .ensures .0) (p .put .ensures .1))
-
-same-length-2 : tie.Need-same-length-2 Inv-loop μ-loop
-same-length-2 c = c .before .loop .inv .long
-
-returns-2 : tie.Need-returns-2 Inv-loop μ-loop
-returns-2 c =
-    let l = c .before in
-    let a = l .before .before .before .args in
-    fill-ends (a .words .now) (a .out .now) (l .loop .out) (l .loop .at) (l .loop .i) (l .loop .inv) (normal-past (a .words .now) (l .loop .i) (c .loop-test .left))
+    let p = c .before .before in
+    let e = p .before .before in
+    let k = e .before in
+    let l = at-loop k in
+    writing-goes-on (words l) (out₀ l) (l .loop .out) (l .loop .at) (l .loop .i) (l .loop .inv) (k .next-closed .result) (k .next-closed .ensures) (e .if1 .left)
+    (p .put .last .1 .0) (p .put .result) (l .before .before .before .pre) (p .put .ensures .0) (p .put .ensures .1)
 
 same-length : tie.Need-same-length Inv-loop μ-loop
-same-length c = at-loop (c .before .before) .loop .inv .long
+same-length c = c .before .loop .inv .filling .long
 
 returns : tie.Need-returns Inv-loop μ-loop
 returns c =
-    let t = c .before .before in
-    let l = at-loop t in
-    fill-ends (words t) (out₀ t) (l .loop .out) (l .loop .at) (l .loop .i) (l .loop .inv) (normal-over (words t) (l .loop .i) (omega (arith, at-is t, c .if1 .taken)))
+    let l = c .before in
+    writing-ends (words l) (out₀ l) (l .loop .out) (l .loop .at) (l .loop .i) (l .loop .inv) (normal-past (words l) (l .loop .i) (c .loop-test .left))
+
+same-length-2 : tie.Need-same-length-2 Inv-loop μ-loop
+same-length-2 c = at-loop (c .before) .loop .inv .filling .long
+
+returns-2 : tie.Need-returns-2 Inv-loop μ-loop
+returns-2 c =
+    let k = c .before in
+    let l = at-loop k in
+    writing-ends (words l) (out₀ l) (l .loop .out) (l .loop .at) (l .loop .i) (l .loop .inv) (normal-over (words l) (l .loop .i) (omega (arith, at-is k, c .if1 .taken)))
 
 pub fill-spec : {M : Type 1} → statement M
 fill-spec =
@@ -116,14 +88,12 @@ fill-spec =
     Inv-loop
     μ-loop
     loop-holds
-    to-close-requires
-    same-length
-    returns
-    slice-aggregate-closed
-    closed-requires
+    next-closed-requires
     put-requires
     add-i
     loop-less
     loop-again
+    same-length
+    returns
     same-length-2
     returns-2)

@@ -1,34 +1,27 @@
 -- `hearing::measure` meets its contract. The loop's invariant: what is counted and what is still to come are the whole.
 -- Assumes nothing.
-use mathlib.Core.Path.{_≡_, refl, sym, ap, ap₂, _∙_, subst}
+use mathlib.Core.Path.{_≡_, ap, _∙_}
 use mathlib.Core.List.{List}
-use Prim.Native.Nat.{ℕ, _+_, _-_, _<_, _≤_}
+use Prim.Native.Nat.{ℕ, _-_, _≤_}
 use native.Mathlib.Omega.{arith}
-use lib.ListN.{length, take, drop}
-use Rattle.hearing.specs.declared.Stop.{Stop}
-use Rattle.hearing.specs.Hearing.{none, openOf}
-use Rattle.hearing.specs.Normal.{worth}
-use Rattle.message.specs.declared.Parsed.{Parsed}
-use Rattle.message.specs.Scan.{parse}
-use Rattle.hearing.proofs.Close.{reached-in, reached-long}
-use Rattle.hearing.proofs.Loops.{next, normal-over, normal-past, Counted, counts, counted, too-long, count-ends}
+use lib.ListN.{length}
+use Rattle.hearing.specs.declared.passes.Closing.{Closing}
+use Rattle.hearing.specs.Inner.{nextClosed, worth}
+use Rattle.hearing.proofs.Loops.{normal-over, normal-past, closed-behind, Measuring, measure-begins, measure-goes-on, measure-fails, measure-ends}
 use Rattle.hearing.proofs.passes.measure.Statement.{statement}
 use Rattle.hearing.proofs.passes.measure.Tie as tie
 
 abbrev Inv-loop : tie.InvT-loop
-Inv-loop words room n₀ i₀ n i = Counted words room n i
+Inv-loop words room n₀ from₀ n from = Measuring words room n from
 
 abbrev μ-loop : tie.MeasureT-loop
-μ-loop words room n₀ i₀ n i = length words - i
+μ-loop words room n₀ from₀ n from = length words - from
 
 loop-holds : tie.Need-loop-holds Inv-loop μ-loop
-loop-holds c = let a = c .before .args in counts (a .words .now) (a .room)
+loop-holds c = let a = c .before .args in measure-begins (a .words .now) (a .room)
 
-to-close-requires : tie.Need-to-close-requires Inv-loop μ-loop
-to-close-requires c κs = tt
-
-closed-requires : tie.Need-closed-requires Inv-loop μ-loop
-closed-requires c κs = tt
+next-closed-requires : tie.Need-next-closed-requires Inv-loop μ-loop
+next-closed-requires c κs = tt
 
 count-of-requires : tie.Need-count-of-requires Inv-loop μ-loop
 count-of-requires c κs = tt
@@ -36,85 +29,63 @@ count-of-requires c κs = tt
 sub-if2 : tie.Need-sub-if2 Inv-loop μ-loop
 sub-if2 c = omega arith
 
--- where the words reach, as the code has it
-module _ (t : tie.After-to-close Inv-loop μ-loop) where
-  abbrev at-loop : tie.At-loop Inv-loop μ-loop
-  at-loop = t .before .before .before
-
+-- the loop
+module _ (l : tie.At-loop Inv-loop μ-loop) where
   abbrev words : List ℕ
-  words = at-loop .before .before .args .words .now
+  words = l .before .before .args .words .now
 
   abbrev room : ℕ
-  room = at-loop .before .before .args .room
+  room = l .before .before .args .room
 
-  at-is : t .to-close .result .at ≡ next words (at-loop .loop .i) .at
-  unfolding none
-  at-is = ap (λ (s : Stop). s .at) (t .to-close .ensures .0)
+-- a message is closed behind where the words begin
+module _ (k : tie.After-next-closed Inv-loop μ-loop) where
+  abbrev at-loop : tie.At-loop Inv-loop μ-loop
+  at-loop = k .before .before
 
-  -- it lies behind where the words began
-  behind : at-loop .loop .i ≤ t .to-close .result .at
-  behind = omega (arith, at-is, reached-in words none (at-loop .loop .i) (at-loop .loop .inv .i-in) .0)
+  at-is : k .next-closed .result .at ≡ nextClosed (words at-loop) (at-loop .loop .from) .at
+  at-is = ap (λ (x : Closing). x .at) (k .next-closed .ensures)
 
-  ten : length (t .to-close .last .0) ≡ 10
-  unfolding none
-  ten = ap length (t .to-close .ensures .1) ∙ reached-long words none (at-loop .loop .i) refl
+  behind : at-loop .loop .from ≤ k .next-closed .result .at
+  behind = omega (arith, at-is, closed-behind (words at-loop) (at-loop .loop .from) (at-loop .loop .inv .i-in))
 
-slice-aggregate-closed : tie.Need-slice-aggregate-closed Inv-loop μ-loop
-slice-aggregate-closed c = sym (ten (c .before .before))
+-- and its length is counted
+length-is : (m : tie.After-count-of Inv-loop μ-loop)
+    → m .count-of .result ≡ length (worth (nextClosed (words (at-loop (m .before .before))) (at-loop (m .before .before) .loop .from) .message))
+length-is m = m .count-of .ensures ∙ ap (λ (x : Closing). length (worth (x .message))) (m .before .before .next-closed .ensures)
 
--- a message is closed: its length, as the code has it
-module _ (k : tie.After-count-of Inv-loop μ-loop) where
-  abbrev closing : tie.After-to-close Inv-loop μ-loop
-  closing = k .before .before .before .before
-
-  stopped : closing .to-close .result .at < length (words closing)
-  stopped = k .before .before .before .if1 .left
-
-  before-end : next (words closing) (at-loop closing .loop .i) .at < length (words closing)
-  before-end = omega (arith, at-is closing, stopped)
-
-  length-is : k .count-of .result ≡ length (worth (parse (openOf (next (words closing) (at-loop closing .loop .i) .pending))))
-  unfolding none openOf
-  length-is =
-      k .count-of .ensures
-      ∙ ap (λ (o : Parsed). length (worth o))
-      (k .before .closed .ensures ∙ ap₂ (λ (s : Stop) (x : List ℕ). parse (take (s .len) x)) (closing .to-close .ensures .0) (closing .to-close .ensures .1))
-
-returns-2 : tie.Need-returns-2 Inv-loop μ-loop
-returns-2 c =
-    let k = c .before in
-    let t = closing k in
-    let l = at-loop t in
-    too-long (words t) (room t) (l .loop .n) (l .loop .i) (l .loop .inv) (before-end k) (k .count-of .result) (length-is k) (c .if2 .taken)
+returns : tie.Need-returns Inv-loop μ-loop
+returns c =
+    let m = c .before in
+    let k = m .before .before in
+    let l = at-loop k in
+    measure-fails (words l) (room l) (l .loop .n) (l .loop .from) (l .loop .inv) (k .next-closed .result .at) (m .count-of .result) (at-is k) (length-is m) (m .before .if1 .left) (c .if2 .taken)
 
 add-n : tie.Need-add-n Inv-loop μ-loop
 add-n c = omega arith
 
-add-i : tie.Need-add-i Inv-loop μ-loop
-add-i c = omega (arith, stopped (c .before))
+add-from : tie.Need-add-from Inv-loop μ-loop
+add-from c = omega (arith, c .before .before .if1 .left)
 
 loop-less : tie.Need-loop-less Inv-loop μ-loop
-loop-less c = omega (arith, stopped (c .before), behind (closing (c .before)))
+loop-less c = let e = c .before .before in omega (arith, e .if1 .left, behind (e .before))
 
 loop-again : tie.Need-loop-again Inv-loop μ-loop
 loop-again c =
-    let k = c .before in
-    let t = closing k in
-    let l = at-loop t in
-    subst (λ (m : ℕ). Counted (words t) (room t) (l .loop .n + k .count-of .result) (m + 1)) (sym (at-is t))
-    (counted (words t) (room t) (l .loop .n) (l .loop .i) (l .loop .inv) (before-end k) (k .count-of .result) (length-is k) (c .if2 .left))
+    let m = c .before in
+    let k = m .before .before in
+    let l = at-loop k in
+    measure-goes-on (words l) (room l) (l .loop .n) (l .loop .from) (l .loop .inv) (k .next-closed .result .at) (m .count-of .result) (at-is k) (length-is m) (m .before .if1 .left) (c .if2 .left)
+
+returns-2 : tie.Need-returns-2 Inv-loop μ-loop
+returns-2 c =
+    let l = c .before in
+    measure-ends (words l) (room l) (l .loop .n) (l .loop .from) (l .loop .inv) (normal-past (words l) (l .loop .from) (c .loop-test .left))
 
 returns-3 : tie.Need-returns-3 Inv-loop μ-loop
 returns-3 c =
-    let l = c .before in
-    let a = l .before .before .args in
-    count-ends (a .words .now) (a .room) (l .loop .n) (l .loop .i) (l .loop .inv) (normal-past (a .words .now) (l .loop .i) (c .loop-test .left))
-
-returns : tie.Need-returns Inv-loop μ-loop
-returns c =
-    let t = c .before in
-    let l = at-loop t in
-    count-ends (words t) (room t) (l .loop .n) (l .loop .i) (l .loop .inv) (normal-over (words t) (l .loop .i) (omega (arith, at-is t, c .if1 .taken)))
+    let k = c .before in
+    let l = at-loop k in
+    measure-ends (words l) (room l) (l .loop .n) (l .loop .from) (l .loop .inv) (normal-over (words l) (l .loop .from) (omega (arith, at-is k, c .if1 .taken)))
 
 pub measure-spec : {M : Type 1} → statement M
 measure-spec =
@@ -123,15 +94,13 @@ measure-spec =
     Inv-loop
     μ-loop
     loop-holds
-    to-close-requires
-    returns
-    slice-aggregate-closed
-    closed-requires
+    next-closed-requires
     count-of-requires
     sub-if2
-    returns-2
+    returns
     add-n
-    add-i
+    add-from
     loop-less
     loop-again
+    returns-2
     returns-3)

@@ -1,6 +1,5 @@
 -- `wire::Line::count` meets its contract: the first `len` of eleven bytes are the lesser of the two. Assumes nothing.
 use mathlib.Core.Path.{_≡_, sym, ap, _∙_}
-use Prim.Native.Nat.{_≤_}
 use borrow.Author.Needs.{needs}
 use native.Mathlib.Omega.{arith}
 use lib.ListN.{length}

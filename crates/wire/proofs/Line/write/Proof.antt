@@ -1,16 +1,14 @@
 -- `wire::Line::write` meets its contract: what is placed at the front of the buffer are the bytes of the line. Assumes nothing.
-use mathlib.Core.Path.{_≡_, sym, ap, ap₂, subst, _∙_}
-use mathlib.Core.Bool.{cond}
+use mathlib.Core.Path.{_≡_, sym, ap, subst, _∙_}
 use mathlib.Core.List.{List}
 use Prim.Native.Nat.{ℕ, _≤_}
-use native.Mathlib.Omega.{arith}
+use borrow.Author.Needs.{needs}
 use lib.ListN.{length, take}
 use lib.Seq.{length-take-le}
-use Rattle.refusal.specs.Refusal.{Outcome, gave}
-use Rattle.refusal.specs.Call.{Call}
-use Rattle.wire.specs.Line.{bytesOf, fitsAt, placed}
-use Rattle.wire.proofs.Lines.{wrote, wrote-nothing, take-counted, bytes-fit}
-use borrow.Author.Needs.{needs}
+use Rattle.refusal.specs.Call.{placeCall}
+use Rattle.refusal.proofs.Calls.{placed-writes}
+use Rattle.wire.specs.Line.{bytesOf}
+use Rattle.wire.proofs.Lines.{take-counted, bytes-fit}
 use Rattle.wire.proofs.Line.write.Statement.{statement}
 use Rattle.wire.proofs.Line.write.Tie as tie
 
@@ -43,40 +41,11 @@ same-length c = search needs
 
 returns : tie.Need-returns
 returns c =
-    let a = c .before .before .before .before .before .before in
-    let p = c .before .before .before .place in
-    let xs = bytesOf (a .before .before .before .args .self) in
+    let a = c .before .before .before .before .before in
     let out = a .before .before .before .args .out .now in
-    let k : p .result ≡ fitsAt xs 0 out = p .ensures .0 ∙ ap (λ (l : List ℕ). fitsAt l 0 out) (part a) in
-    let w = wrote xs out (sym k ∙ c .if1 .taken) in (
-      ap gave (a .count .ensures) ∙ sym (ap (λ (x : Call). x .outcome) w),
-      p .ensures .1 ∙ ap (λ (l : List ℕ). cond (fitsAt l 0 out) (placed l 0 out) out) (part a) ∙ sym (ap (λ (x : Call). x .buffer) w),
-    )
-
-same-length-2 : tie.Need-same-length-2
-same-length-2 c = search needs
-
-returns-2 : tie.Need-returns-2
-returns-2 c =
-    let a = c .before .before .before .before .before .before in
-    let p = c .before .before .before .place in
-    let xs = bytesOf (a .before .before .before .args .self) in
-    let out = a .before .before .before .args .out .now in
-    let k : p .result ≡ fitsAt xs 0 out = p .ensures .0 ∙ ap (λ (l : List ℕ). fitsAt l 0 out) (part a) in
-    let w = wrote-nothing xs out (sym k ∙ c .if1 .left) in (
-      sym (ap (λ (x : Call). x .outcome) w),
-      p .ensures .1 ∙ ap (λ (l : List ℕ). cond (fitsAt l 0 out) (placed l 0 out) out) (part a) ∙ sym (ap (λ (x : Call). x .buffer) w),
-    )
+    c .before .before .place .ensures ∙ ap (λ (l : List ℕ). placeCall l 0 out) (part a) ∙ placed-writes _ out
 
 pub write-spec : {M : Type 1} → statement M
 write-spec =
     tie.close
-    (tie.spec
-    count-requires
-    array-share-prefix-bytes
-    slice-aggregate-place
-    place-requires
-    same-length
-    returns
-    same-length-2
-    returns-2)
+    (tie.spec count-requires array-share-prefix-bytes slice-aggregate-place place-requires same-length returns)

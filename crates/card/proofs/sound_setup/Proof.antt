@@ -1,0 +1,18 @@
+-- `card::sound_setup` meets its contract: the two tests are the definition's. Assumes nothing.
+use Rattle.card.specs.Refusals.{soundSetup}
+use borrow.Author.Needs.{needs}
+use Rattle.card.proofs.sound_setup.Statement.{statement}
+use Rattle.card.proofs.sound_setup.Tie as tie
+
+is-letter-requires : tie.Need-is-letter-requires
+is-letter-requires c κs = search needs
+
+is-address-requires : tie.Need-is-address-requires
+is-address-requires c κs = search needs
+
+returns : tie.Need-returns
+unfolding soundSetup
+returns c = cc
+
+pub sound-setup-spec : {M : Type 1} → statement M
+sound-setup-spec = tie.close (tie.spec is-letter-requires is-address-requires returns)

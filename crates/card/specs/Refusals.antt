@@ -1,0 +1,56 @@
+-- Which cards are sound, and the refusals of a call in the paper's order.
+use mathlib.Core.Bool.{Bool, true, false, not, _&&_}
+use mathlib.Core.List.{List, [], _∷_, _++_}
+use Prim.Native.Nat.{ℕ}
+use lib.Dec.{ltb}
+use lib.IntN.{ℤ}
+use lib.ListN.{length}
+use Rattle.refusal.specs.Check.{Check, refuseIf}
+use Rattle.refusal.specs.declared.Refusal.the-variants.{UnsoundCard, UnsoundSheet, UnsoundValues, WordAbove256, RoomTooShort}
+use Rattle.wire.specs.Word.{validWords}
+use Rattle.message.specs.Message.{isLetter, isAddress}
+use Rattle.hearing.specs.Sound.{soundPending}
+use Rattle.sheet.specs.declared.Entry.{Entry}
+use Rattle.sheet.specs.declared.Entry.the-variants.{Found, Missing}
+use Rattle.sheet.specs.Sheet.{soundSheet}
+use Rattle.sheet.specs.Values.{entryIn, isWritable, fitsRow, soundValues}
+use Rattle.reply.specs.Reply.{longestReply}
+use Rattle.act.specs.declared.Setup.{Setup}
+use Rattle.act.specs.declared.Offer.{Offer}
+use Rattle.act.specs.declared.Offer.the-variants.{Nothing, Held}
+use Rattle.card.specs.declared.Card.{Card}
+
+-- document 01, number 1: "letter, address"
+unfoldable pub soundSetup : Setup → Bool
+soundSetup s = isLetter (s .letter) && isAddress (s .address)
+
+-- document 01, number 1, in its first place: "letter, address, open message"
+unfoldable pub soundCard : Card → Bool
+soundCard c = soundSetup (c .setup) && soundPending (c .pending)
+
+-- a value that a Type 3 can leave on offer
+unfoldable pub offerable : Entry → ℤ → Bool
+offerable (Found r) z = isWritable r && fitsRow r z
+offerable Missing z = false
+
+-- document 01, number 1: "an offer that no Type 3 could leave under these sheets"
+unfoldable pub soundOffer : List ℤ → List ℤ → Offer → Bool
+soundOffer bench maker Nothing = true
+soundOffer bench maker (Held i z) = offerable (entryIn bench maker i) z
+
+-- document 01: "Checked in this order"; "An offer is judged after the sheets and before the values"
+unfoldable pub cardChecks : Card → List ℤ → List ℤ → List ℤ → List ℕ → List Check
+cardChecks c bench maker values ws =
+    refuseIf (not (soundCard c)) UnsoundCard
+    ∷ refuseIf (not (soundSheet bench && soundSheet maker)) UnsoundSheet
+    ∷ refuseIf (not (soundOffer bench maker (c .offer))) UnsoundCard
+    ∷ refuseIf (not (soundValues bench maker values)) UnsoundValues
+    ∷ refuseIf (not (validWords ws)) WordAbove256
+    ∷ []
+
+-- a single word: the same, then number 5, "under 11 bytes for a single word's reply"
+abbrev pub roomCheck : List ℕ → Check
+roomCheck out = refuseIf (ltb (length out) longestReply) RoomTooShort
+
+unfoldable pub stepChecks : Card → List ℤ → List ℤ → List ℤ → ℕ → List ℕ → List Check
+stepChecks c bench maker values w out = cardChecks c bench maker values (w ∷ []) ++ (roomCheck out ∷ [])

@@ -1,0 +1,34 @@
+-- `demands::demands` meets its contract: three, and every claim. Assumes nothing.
+use mathlib.Core.Path.{refl}
+use Rattle.demands.proofs.demands.Statement.{statement}
+use Rattle.demands.proofs.demands.Tie as tie
+use Rattle.demands.specs.Demand2.{Demand2}
+use Rattle.demands.specs.Demands.{Demands}
+use Rattle.demands.proofs.Cases.{bench, more}
+use Rattle.demands.proofs.Refusals.{demand-1}
+use Rattle.demands.proofs.Words.{writers-heard, run-steps}
+use Rattle.demands.proofs.Kept.{stays-sound}
+use Rattle.demands.proofs.Answers.{reply-read}
+use Rattle.demands.proofs.Possible.{reader-exact}
+use Rattle.demands.proofs.Offers.{offer-reachable, never-up}
+use Rattle.demands.proofs.Recordings.{demand-3}
+
+demand-2 : Demand2
+demand-2 = record {
+  writer-heard = writers-heard;
+  reply-read = reply-read;
+  reader-exact = reader-exact;
+  offer-reachable = offer-reachable;
+  never-up = never-up;
+  stays-sound = stays-sound;
+  run-steps = run-steps;
+}
+
+all-hold : Demands
+all-hold = record { demand-1 = demand-1; demand-2 = demand-2; demand-3 = demand-3; bench = bench; more = more }
+
+returns : tie.Need-returns
+returns c = (refl, all-hold)
+
+pub demands-spec : {M : Type 1} → statement M
+demands-spec = tie.close (tie.spec returns)

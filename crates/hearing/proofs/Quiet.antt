@@ -1,0 +1,42 @@
+-- With no message open it does not matter what stands where an open message would: the same messages are heard. Assumes nothing.
+use mathlib.Core.Path.{_≡_, refl, sym, ap, _∙_}
+use mathlib.Core.List.{List, [], _∷_}
+use Prim.Native.Nat.{ℕ}
+use borrow.Author.Tests.{eq-eqb}
+use Rattle.refusal.proofs.Logic.{choice}
+use Rattle.wire.specs.declared.Received.{Received}
+use Rattle.wire.specs.declared.Received.the-variants.{Character, Nothing}
+use Rattle.wire.specs.Word.{received}
+use Rattle.message.specs.declared.Message.{Message}
+use Rattle.message.specs.declared.Parsed.the-variants.{Unheard}
+use Rattle.message.specs.Message.{isLetter}
+use Rattle.hearing.specs.declared.Pending.{Pending}
+use Rattle.hearing.specs.declared.Action.{Action}
+use Rattle.hearing.specs.Hearing.{none, opening, actionOf, perform, hear, before, heardFrom}
+
+-- what is heard by an action, and then
+heardBy : Pending → List ℕ → Action → List Message
+heardBy p ws a = before (perform p a .message) (heardFrom (perform p a .pending) ws)
+
+module _ (p : Pending) (e : p .len ≡ 0) where
+  -- what a word does
+  opens : (w : ℕ) → actionOf p w ≡ opening (received w)
+  unfolding actionOf
+  opens w = rw (eq-eqb (p .len) 0 e)
+
+  alike : (ws : List ℕ) → heardFrom p ws ≡ heardFrom none ws → (r : Received) → heardBy p ws (opening r) ≡ heardBy none ws (opening r)
+  unfolding heardBy opening perform
+  alike ws h (Character c) = choice (λ (a : Action). heardBy p ws a ≡ heardBy none ws a) (isLetter c) (λ t. refl) (λ t. ap (λ (ms : List Message). before Unheard ms) h)
+  alike ws h Nothing = ap (λ (ms : List Message). before Unheard ms) h
+
+none-opens : (w : ℕ) → actionOf none w ≡ opening (received w)
+unfolding none
+none-opens w = opens none refl w
+
+pub heard-closed : (p : Pending) → p .len ≡ 0 → (ws : List ℕ) → heardFrom p ws ≡ heardFrom none ws
+unfolding heardFrom hear heardBy
+heard-closed p e [] = refl
+heard-closed p e (w ∷ ws) =
+    ap (heardBy p ws) (opens p e w)
+    ∙ alike p e ws (heard-closed p e ws) (received w)
+    ∙ ap (heardBy none ws) (sym (none-opens w))

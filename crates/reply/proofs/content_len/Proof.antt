@@ -1,0 +1,25 @@
+-- `reply::content_len` meets its contract: no data, or five digits. Assumes nothing.
+use mathlib.Core.Path.{sym, ap, _∙_}
+use lib.ListN.{length}
+use Rattle.number.proofs.Digits.{data-length}
+use Rattle.reply.specs.declared.Content.{Content}
+use Rattle.reply.specs.Reply.{spellContent}
+use Rattle.reply.proofs.Spelled.{no-data, number-data}
+use borrow.Author.Needs.{needs}
+use Rattle.reply.proofs.content_len.Statement.{statement}
+use Rattle.reply.proofs.content_len.Tie as tie
+
+enum-told : tie.Need-enum-told
+enum-told c = search needs
+
+enum-told-2 : tie.Need-enum-told-2
+enum-told-2 c = search needs
+
+returns : tie.Need-returns
+returns c = sym (ap (λ (x : Content). length (spellContent x)) (c .enum-told .given .1) ∙ ap length no-data)
+
+returns-2 : tie.Need-returns-2
+returns-2 c = sym (ap (λ (x : Content). length (spellContent x)) (c .enum-told2 .given .1) ∙ ap length (number-data _) ∙ data-length _)
+
+pub content-len-spec : {M : Type 1} → statement M
+content-len-spec = tie.close (tie.spec enum-told enum-told-2 returns returns-2)

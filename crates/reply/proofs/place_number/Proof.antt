@@ -1,0 +1,99 @@
+-- `reply::place_number` meets its contract: the bytes are those of the five digits. Assumes nothing.
+use mathlib.Core.Path.{_≡_, refl, ap, _∙_}
+use mathlib.Core.List.{List, [], _∷_}
+use Prim.Native.Nat.{ℕ}
+use lib.ListN.{length, getD}
+use Rattle.refusal.specs.Buffer.{placed}
+use Rattle.refusal.proofs.Calls.{placed-is}
+use Rattle.wire.specs.Word.{travelling}
+use Rattle.number.specs.Data.{spellData}
+use Rattle.number.proofs.Digits.{data-length}
+use Rattle.message.proofs.Places.{five-are}
+use borrow.Author.Needs.{needs}
+use Rattle.reply.proofs.place_number.Statement.{statement}
+use Rattle.reply.proofs.place_number.Tie as tie
+
+write-data-requires : tie.Need-write-data-requires
+write-data-requires c κs = search needs
+
+array-read-with-parity : tie.Need-array-read-with-parity
+array-read-with-parity c = search needs
+
+with-parity-requires : tie.Need-with-parity-requires
+with-parity-requires c κs = search needs
+
+array-read-with-parity-2 : tie.Need-array-read-with-parity-2
+array-read-with-parity-2 c = search needs
+
+with-parity-requires-2 : tie.Need-with-parity-requires-2
+with-parity-requires-2 c κs = search needs
+
+array-read-with-parity-3 : tie.Need-array-read-with-parity-3
+array-read-with-parity-3 c = search needs
+
+with-parity-requires-3 : tie.Need-with-parity-requires-3
+with-parity-requires-3 c κs = search needs
+
+array-read-with-parity-4 : tie.Need-array-read-with-parity-4
+array-read-with-parity-4 c = search needs
+
+with-parity-requires-4 : tie.Need-with-parity-requires-4
+with-parity-requires-4 c κs = search needs
+
+array-read-with-parity-5 : tie.Need-array-read-with-parity-5
+array-read-with-parity-5 c = search needs
+
+with-parity-requires-5 : tie.Need-with-parity-requires-5
+with-parity-requires-5 c κs = search needs
+
+slice-aggregate-place : tie.Need-slice-aggregate-place
+slice-aggregate-place c = search needs
+
+place-requires : tie.Need-place-requires
+place-requires c κs = search needs
+
+add-result : tie.Need-add-result
+add-result c = search needs
+
+same-length : tie.Need-same-length
+same-length c = search needs
+
+returns : tie.Need-returns
+unfolding travelling
+returns c =
+    let p = c .before .before in
+    let w₅ = p .before .before .before in
+    let w₄ = w₅ .before in
+    let w₃ = w₄ .before in
+    let w₂ = w₃ .before in
+    let w₁ = w₂ .before in
+    let d = w₁ .before in
+    let s = d .before .before in
+    let ds = d .write-data .result in
+    let is : getD ds 0 0 ∷ getD ds 1 0 ∷ getD ds 2 0 ∷ getD ds 3 0 ∷ getD ds 4 0 ∷ [] ≡ spellData (s .args .x) = five-are ds (ap length (d .write-data .ensures) ∙ data-length (s .args .x)) ∙ d .write-data .ensures in (
+      refl,
+      placed-is _ (s .args .at) (s .args .out .now) (s .pre) (p .place .ensures)
+          ∙ rw (w₁ .with-parity .ensures, w₂ .with-parity2 .ensures, w₃ .with-parity3 .ensures, w₄ .with-parity4 .ensures, w₅ .with-parity5 .ensures)
+          (ap (λ (l : List ℕ). placed (travelling l) (s .args .at) (s .args .out .now)) is),
+    )
+
+pub place-number-spec : {M : Type 1} → statement M
+place-number-spec =
+    tie.close
+    (tie.spec
+    write-data-requires
+    array-read-with-parity
+    with-parity-requires
+    array-read-with-parity-2
+    with-parity-requires-2
+    array-read-with-parity-3
+    with-parity-requires-3
+    array-read-with-parity-4
+    with-parity-requires-4
+    array-read-with-parity-5
+    with-parity-requires-5
+    slice-aggregate-place
+    place-requires
+    add-result
+    same-length
+    returns)

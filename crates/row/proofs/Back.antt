@@ -1,0 +1,91 @@
+-- A card that is stored back into the row that it came from is the card of that row: reading what was written gives it again.
+-- Assumes nothing.
+use mathlib.Core.Path.{_≡_, refl, sym, ap, ap₂, _∙_}
+use mathlib.Core.Bool.{true}
+use mathlib.Core.List.{List, [], _∷_, _++_, map, append-assoc}
+use Prim.Native.Nat.{ℕ, suc, _+_, _<_, _≤_}
+use native.Mathlib.Omega.{arith}
+use borrow.Author.Tests.{le-leb}
+use lib.IntN.{ℤ, pos}
+use lib.ListN.{length, getD, drop}
+use lib.Seq.{length-take-le, getD-append-add}
+use Rattle.refusal.specs.Buffer.{placed}
+use Rattle.refusal.proofs.Logic.{and-both}
+use Rattle.number.specs.Number.{inRange}
+use Rattle.sheet.specs.Sheet.{at}
+use Rattle.hearing.specs.declared.Pending.{Pending}
+use Rattle.hearing.specs.Hearing.{openOf}
+use Rattle.act.specs.declared.Setup.{Setup}
+use Rattle.act.specs.declared.Offer.{Offer}
+use Rattle.act.specs.declared.Offer.the-variants.{Nothing, Held}
+use Rattle.card.specs.declared.Card.{Card}
+use Rattle.row.specs.Row.{isByte, byteOf, bytesIn, offerOf, setupOf, pendingOf, cardOf, pendingRow, offerRow, changing, storedIn}
+use Rattle.row.proofs.Laws.{pending-length, stored-placed}
+
+is-byte : (n : ℕ) → n < 256 → isByte (pos n) ≡ true
+unfolding isByte inRange
+is-byte n h = and-both (le-leb 0 n (omega arith)) (le-leb n 255 (omega arith))
+
+pub byte-back : (n : ℕ) → n < 256 → byteOf (pos n) ≡ n
+unfolding byteOf
+byte-back n h = rw (is-byte n h)
+
+-- characters that are bytes
+pub bytes-back : (cs : List ℕ) (rest : List ℤ) → ((k : ℕ) → getD cs k 0 < 256) → bytesIn (length cs) (map pos cs ++ rest) ≡ cs
+unfolding bytesIn
+bytes-back [] rest h = refl
+bytes-back (x ∷ cs) rest h = ap₂ _∷_ (byte-back x (h 0)) (bytes-back cs rest (λ k. h (suc k)))
+
+-- what the code's types say of an open message, and that no more than ten characters are open, as in every sound card
+pub record Lent (p : Pending) : Type 0 where
+  pub ten : length (p .chars) ≡ 10
+  pub held : p .len ≤ 10
+  pub chars : (k : ℕ) → getD (p .chars) k 0 < 256
+
+pub pending-back : (p : Pending) (a b : ℤ) (rest : List ℤ) → Lent p → pendingOf (a ∷ b ∷ (pendingRow p ++ rest)) ≡ p
+unfolding pendingOf pendingRow openOf
+pending-back p a b rest l =
+    let n : length (openOf p) ≡ p .len = length-take-le (p .len) (p .chars) (omega (arith, l .ten, l .held)) in
+    let cs : bytesIn 10 (map pos (p .chars) ++ rest) ≡ p .chars = ap (λ (k : ℕ). bytesIn k (map pos (p .chars) ++ rest)) (sym (l .ten)) ∙ bytes-back (p .chars) rest (l .chars) in
+    let m : byteOf (pos (length (openOf p))) ≡ p .len = byte-back (length (openOf p)) (omega (arith, n, l .held)) ∙ n in
+    ap₂ (λ (x : List ℕ) (k : ℕ). record { chars = x; len = k }) cs m
+
+-- the identifier of an offer; 0 where there is none
+abbrev pub identifierOf : Offer → ℕ
+identifierOf Nothing = 0
+identifierOf (Held i z) = i
+
+offer-back : (o : Offer) (rest : List ℤ) → identifierOf o < 256 → offerOf (at (offerRow o ++ rest) 0) (at (offerRow o ++ rest) 1) (at (offerRow o ++ rest) 2) ≡ o
+unfolding offerOf offerRow inRange
+offer-back Nothing rest h = refl
+offer-back (Held i z) rest h = rw (is-byte i h, byte-back i h)
+
+-- ---- the whole card
+
+module _ (c : Card) (l : Lent (c .pending)) (small : identifierOf (c .offer) < 256) where
+  module _ (a b : ℤ) (rest : List ℤ) where
+    abbrev q : List ℤ
+    q = offerRow (c .offer) ++ rest
+
+    behind : (k : ℕ) → at (pendingRow (c .pending) ++ q) (11 + k) ≡ at q k
+    behind k =
+        let n : 11 ≡ length (pendingRow (c .pending)) = omega (arith, pending-length (c .pending), l .ten) in
+        ap (λ (j : ℕ). at (pendingRow (c .pending) ++ q) (j + k)) n ∙ getD-append-add (pendingRow (c .pending)) q k (pos 0)
+
+    card-of : c .setup ≡ setupOf (a ∷ b ∷ rest) → cardOf (a ∷ b ∷ (pendingRow (c .pending) ++ q)) ≡ c
+    unfolding cardOf setupOf
+    card-of e =
+        let x = a ∷ b ∷ (pendingRow (c .pending) ++ q) in
+        let o : offerOf (at x 13) (at x 14) (at x 15) ≡ c .offer =
+        ap₂ (λ (m i : ℤ). offerOf m i (at x 15)) (behind 0) (behind 1) ∙ ap (offerOf (at q 0) (at q 1)) (behind 2) ∙ offer-back (c .offer) rest small in
+        ap₂ (λ (p : Pending) (y : Offer). record { setup = setupOf x; pending = p; offer = y }) (pending-back (c .pending) a b q l) o
+        ∙ ap (λ (s : Setup). record { setup = s; pending = c .pending; offer = c .offer }) (sym e)
+
+  pub card-back : (row : List ℤ) → 16 ≤ length row → c .setup ≡ setupOf row → cardOf (storedIn c row) ≡ c
+  unfolding placed setupOf
+  card-back [] h e = absurd (omega arith)
+  card-back (a ∷ []) h e = absurd (omega arith)
+  card-back (a ∷ b ∷ rest) h e =
+      let d = drop (2 + length (changing c)) (a ∷ b ∷ rest) in
+      ap cardOf (stored-placed c (a ∷ b ∷ rest) (l .ten) h ∙ ap (λ (x : List ℤ). a ∷ b ∷ x) (append-assoc (pendingRow (c .pending)) (offerRow (c .offer)) d))
+      ∙ card-of a b d e

@@ -1,0 +1,105 @@
+-- Laws of rows: what the loops of the code carry, and what a card stored back has left. Assumes nothing.
+use mathlib.Core.Path.{_≡_, refl, sym, ap, _∙_}
+use mathlib.Core.Bool.{Bool, true, false, _&&_}
+use mathlib.Core.List.{List, [], _∷_, _++_, map, append-nil}
+use Prim.Native.Nat.{ℕ, zero, suc, _+_, _<_, _≤_}
+use native.Mathlib.Omega.{arith}
+use borrow.Author.Tests.{le-leb, lt-leb}
+use lib.IntN.{ℤ, pos}
+use lib.ListN.{length, getD, drop, set, length-append, length-map, drop-of-length-le}
+use lib.Seq.{getD-drop, sets, sets-eq}
+use Rattle.refusal.specs.Buffer.{laid, fitsAt, placed}
+use Rattle.refusal.proofs.Buffers.{placed-front, placed-one, placed-both}
+use Rattle.sheet.specs.Sheet.{at}
+use Rattle.hearing.specs.declared.Pending.{Pending}
+use Rattle.hearing.specs.Hearing.{openOf}
+use Rattle.act.specs.declared.Offer.{Offer}
+use Rattle.card.specs.declared.Card.{Card}
+use Rattle.act.specs.declared.Offer.the-variants.{Nothing, Held}
+use Rattle.row.specs.Row.{isByte, byteOf, bytesIn, isExactly, offerOf, pendingRow, offerRow, changing, storedIn}
+
+-- ---- bytes read from a row
+
+pub bytes-length : (n : ℕ) (zs : List ℤ) → length (bytesIn n zs) ≡ n
+unfolding bytesIn
+bytes-length zero zs = refl
+bytes-length (suc n) zs = ap suc (bytes-length n (drop 1 zs))
+
+bytes-at : (n k : ℕ) (zs : List ℤ) → k < n → getD (bytesIn n zs) k 0 ≡ byteOf (at zs k)
+unfolding bytesIn
+bytes-at zero k zs h = absurd (omega arith)
+bytes-at (suc n) zero zs h = refl
+bytes-at (suc n) (suc k) zs h = bytes-at n k (drop 1 zs) (omega arith) ∙ ap byteOf (getD-drop 1 zs k (pos 0) ∙ ap (at zs) (omega arith))
+
+-- the number at a place of the row, as the loop reads it
+pub byte-read : (row : List ℤ) (from n k : ℕ) → k < n → getD (bytesIn n (drop from row)) k 0 ≡ byteOf (at row (from + k))
+byte-read row from n k h = bytes-at n k (drop from row) h ∙ ap byteOf (getD-drop from row k (pos 0))
+
+-- a list over the whole of a buffer
+pub placed-whole : (xs out : List ℕ) → length out ≤ length xs → placed xs 0 out ≡ xs
+unfolding laid
+placed-whole xs out h = placed-front xs out ∙ ap (λ (l : List ℕ). xs ++ l) (drop-of-length-le out h) ∙ append-nil xs
+
+-- elements stored one behind the other
+pub sets-placed : (xs out : List ℤ) (from : ℕ) → from + length xs ≤ length out → sets out from xs ≡ placed xs from out
+unfolding placed
+sets-placed xs out from h = sets-eq xs out from h
+
+-- ---- an offer by its three numbers
+
+module _ (m i z : ℤ) where
+  abbrev pub isNone : Bool
+  isNone = isExactly 0 m && isExactly 0 i && isExactly 0 z
+
+  abbrev pub isMarked : Bool
+  isMarked = isExactly 1 m && isByte i
+
+  pub offer-none : isNone ≡ true → offerOf m i z ≡ Nothing
+  unfolding offerOf
+  offer-none e = rw e
+
+  pub offer-marked : isNone ≡ false → isMarked ≡ true → offerOf m i z ≡ Held (byteOf i) z
+  unfolding offerOf
+  offer-marked e f = rw (e, f)
+
+  pub offer-other : isNone ≡ false → isMarked ≡ false → offerOf m i z ≡ Held 0 (pos 0)
+  unfolding offerOf
+  offer-other e f = rw (e, f)
+
+-- ---- a card stored back
+
+pub pending-length : (p : Pending) → length (pendingRow p) ≡ suc (length (p .chars))
+unfolding pendingRow
+pending-length p = ap suc (length-map (p .chars) pos)
+
+pub offer-length : (o : Offer) → length (offerRow o) ≡ 3
+unfolding offerRow
+offer-length Nothing = refl
+offer-length (Held i z) = refl
+
+-- the count, and the characters behind it
+pub pending-placed : (p : Pending) (row : List ℤ) → 13 ≤ length row → placed (map pos (p .chars)) 3 (set row 2 (pos (length (openOf p)))) ≡ placed (pendingRow p) 2 row
+unfolding pendingRow
+pending-placed p row h =
+    let x = pos (length (openOf p)) in
+    ap (placed (map pos (p .chars)) 3) (placed-one x 2 row (omega arith)) ∙ placed-both (x ∷ []) 2 row (omega arith) (map pos (p .chars))
+
+module _ (c : Card) (row : List ℤ) (ten : length (c .pending .chars) ≡ 10) where
+  pub changing-length : length (changing c) ≡ 14
+  changing-length = omega (arith, length-append (pendingRow (c .pending)) (offerRow (c .offer)), pending-length (c .pending), offer-length (c .offer), ten)
+
+  pub stored-placed : 16 ≤ length row → storedIn c row ≡ placed (changing c) 2 row
+  unfolding storedIn fitsAt
+  stored-placed h = rw (le-leb (2 + length (changing c)) (length row) (omega (arith, changing-length)))
+
+  -- the offer behind the open message
+  pub stored-parts : 16 ≤ length row → placed (offerRow (c .offer)) 13 (placed (pendingRow (c .pending)) 2 row) ≡ storedIn c row
+  stored-parts h =
+      let n : 13 ≡ 2 + length (pendingRow (c .pending)) = omega (arith, pending-length (c .pending), ten) in
+      ap (λ (k : ℕ). placed (offerRow (c .offer)) k (placed (pendingRow (c .pending)) 2 row)) n
+      ∙ placed-both (pendingRow (c .pending)) 2 row (omega arith) (offerRow (c .offer))
+      ∙ sym (stored-placed h)
+
+  pub stored-short : length row < 16 → storedIn c row ≡ row
+  unfolding storedIn fitsAt
+  stored-short h = rw (lt-leb (2 + length (changing c)) (length row) (omega (arith, changing-length)))
