@@ -7,30 +7,6 @@ use borrow.Author.Needs.{needs}
 use Rattle.abi.proofs.answer_row.Statement.{statement}
 use Rattle.abi.proofs.answer_row.Tie as tie
 
-wide-requires : tie.Need-wide-requires
-wide-requires c κs = search needs
-
-wide-requires-2 : tie.Need-wide-requires-2
-wide-requires-2 c κs = search needs
-
-wide-requires-3 : tie.Need-wide-requires-3
-wide-requires-3 c κs = search needs
-
-mark-of-requires : tie.Need-mark-of-requires
-mark-of-requires c κs = search needs
-
-wide-requires-4 : tie.Need-wide-requires-4
-wide-requires-4 c κs = search needs
-
-enum-told : tie.Need-enum-told
-enum-told c = search needs
-
-enum-known-content : tie.Need-enum-known-content
-enum-known-content c = search needs
-
-wide-requires-5 : tie.Need-wide-requires-5
-wide-requires-5 c κs = search needs
-
 returns : tie.Need-returns
 unfolding answerRow
 returns c =
@@ -62,16 +38,6 @@ returns-2 c =
     )
 
 pub answer-row-spec : {M : Type 1} → statement M
-answer-row-spec =
-    tie.close
-    (tie.spec
-    wide-requires
-    wide-requires-2
-    wide-requires-3
-    mark-of-requires
-    wide-requires-4
-    enum-told
-    enum-known-content
-    wide-requires-5
-    returns
-    returns-2)
+answer-row-spec = tie.close (tie.spec
+    (λ c κs. search needs) (λ c κs. search needs) (λ c κs. search needs) (λ c κs. search needs) (λ c κs. search needs) (λ c. search needs)
+    (λ c. search needs) (λ c κs. search needs) returns returns-2)

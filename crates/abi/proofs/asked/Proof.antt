@@ -10,15 +10,9 @@ returns : tie.Need-returns
 unfolding asked
 returns c = simp (lt-leb _ _ (c .if1 .taken))
 
-cast-body-of : tie.Need-cast-body-of
-cast-body-of c = search needs
-
-body-of-requires : tie.Need-body-of-requires
-body-of-requires c κs = search needs
-
 returns-2 : tie.Need-returns-2
 unfolding asked
 returns-2 c = simp (le-leb _ _ (c .before .if1 .left), c .body-of .ensures, rd-is (c .before .before .fits .number))
 
 pub asked-spec : {M : Type 1} → statement M
-asked-spec = tie.close (tie.spec returns cast-body-of body-of-requires returns-2)
+asked-spec = tie.close (tie.spec returns (λ c. search needs) (λ c κs. search needs) returns-2)

@@ -6,22 +6,13 @@ use borrow.Author.Needs.{needs}
 use Rattle.abi.proofs.body_of.Statement.{statement}
 use Rattle.abi.proofs.body_of.Tie as tie
 
-heard-requires : tie.Need-heard-requires
-heard-requires c κs = search needs
-
 returns : tie.Need-returns
 unfolding bodyOf
 returns c = simp (eq-eqb _ _ (c .before .before .if1 .taken), eq-eqb _ _ (c .before .if2 .taken), c .heard .ensures)
 
-heard-requires-2 : tie.Need-heard-requires-2
-heard-requires-2 c κs = search needs
-
 returns-2 : tie.Need-returns-2
 unfolding bodyOf
 returns-2 c = simp (eq-eqb _ _ (c .before .before .if1 .taken), ne-eqb _ _ (c .before .if2 .left), c .heard2 .ensures)
-
-heard-requires-3 : tie.Need-heard-requires-3
-heard-requires-3 c κs = search needs
 
 returns-3 : tie.Need-returns-3
 unfolding bodyOf
@@ -29,26 +20,17 @@ returns-3 c =
     let e = c .before .before in
     simp (ne-eqb _ _ (e .if1 .left), eq-eqb _ _ (c .before .if3 .taken), c .heard3 .ensures)
 
-heard-requires-4 : tie.Need-heard-requires-4
-heard-requires-4 c κs = search needs
-
 returns-4 : tie.Need-returns-4
 unfolding bodyOf
 returns-4 c =
     let e = c .before .before in
     simp (ne-eqb _ _ (e .if3 .left), ne-eqb _ _ (e .before .if1 .left), eq-eqb _ _ (c .before .if4 .taken), c .heard4 .ensures)
 
-heard-requires-5 : tie.Need-heard-requires-5
-heard-requires-5 c κs = search needs
-
 returns-5 : tie.Need-returns-5
 unfolding bodyOf
 returns-5 c =
     let e = c .before .before in
     simp (ne-eqb _ _ (e .if4 .left), ne-eqb _ _ (e .before .if3 .left), ne-eqb _ _ (e .before .before .if1 .left), eq-eqb _ _ (c .before .if5 .taken), c .heard5 .ensures)
-
-set-of-requires : tie.Need-set-of-requires
-set-of-requires c κs = search needs
 
 returns-6 : tie.Need-returns-6
 unfolding bodyOf
@@ -61,19 +43,6 @@ unfolding bodyOf
 returns-7 c = simp (ne-eqb _ _ (c .if6 .left), ne-eqb _ _ (c .before .if5 .left), ne-eqb _ _ (c .before .before .if4 .left), ne-eqb _ _ (c .before .before .before .if3 .left), ne-eqb _ _ (c .before .before .before .before .if1 .left))
 
 pub body-of-spec : {M : Type 1} → statement M
-body-of-spec =
-    tie.close
-    (tie.spec
-    heard-requires
-    returns
-    heard-requires-2
-    returns-2
-    heard-requires-3
-    returns-3
-    heard-requires-4
-    returns-4
-    heard-requires-5
-    returns-5
-    set-of-requires
-    returns-6
-    returns-7)
+body-of-spec = tie.close (tie.spec
+    (λ c κs. search needs) returns (λ c κs. search needs) returns-2 (λ c κs. search needs) returns-3 (λ c κs. search needs) returns-4
+    (λ c κs. search needs) returns-5 (λ c κs. search needs) returns-6 returns-7)

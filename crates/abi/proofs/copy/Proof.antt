@@ -59,18 +59,5 @@ returns c =
     ∙ placed-front (a .numbers .now) (a .out .now)
 
 pub copy-spec : {M : Type 1} → statement M
-copy-spec =
-    tie.close
-    (tie.spec
-    Inv-loop
-    μ-loop
-    loop-holds
-    mul-out
-    shared-slice-copy-out-out
-    mul-t8
-    slice-set-from-out
-    add-k
-    loop-less
-    loop-again
-    same-length
-    returns)
+copy-spec = tie.close (tie.spec
+    Inv-loop μ-loop loop-holds mul-out shared-slice-copy-out-out mul-t8 slice-set-from-out add-k loop-less loop-again same-length returns)

@@ -8,9 +8,6 @@ use borrow.Author.Needs.{needs}
 use Rattle.abi.proofs.count_result.Statement.{statement}
 use Rattle.abi.proofs.count_result.Tie as tie
 
-cast-result : tie.Need-cast-result
-cast-result c = search needs
-
 returns : tie.Need-returns
 unfolding countResult
 returns c = simp (le-leb _ _ (c .if1 .taken)) (toZ-pos w64 (c .before .args .n) (omega arith))
@@ -20,4 +17,4 @@ unfolding countResult
 returns-2 c = simp (lt-leb _ _ (c .if1 .left))
 
 pub count-result-spec : {M : Type 1} → statement M
-count-result-spec = tie.close (tie.spec cast-result returns returns-2)
+count-result-spec = tie.close (tie.spec (λ c. search needs) returns returns-2)

@@ -9,27 +9,6 @@ use borrow.Author.Needs.{needs}
 use Rattle.abi.proofs.kav_line.Statement.{statement}
 use Rattle.abi.proofs.kav_line.Tie as tie
 
-asked-requires : tie.Need-asked-requires
-asked-requires c κs = search needs
-
-enum-known-message : tie.Need-enum-known-message
-enum-known-message c = search needs
-
-line-requires : tie.Need-line-requires
-line-requires c κs = search needs
-
-result-requires : tie.Need-result-requires
-result-requires c κs = search needs
-
-enum-told : tie.Need-enum-told
-enum-told c = search needs
-
-minus-number-requires : tie.Need-minus-number-requires
-minus-number-requires c κs = search needs
-
-same-length : tie.Need-same-length
-same-length c = search needs
-
 returns : tie.Need-returns
 unfolding lineAsked
 returns c =
@@ -58,15 +37,6 @@ returns-2 c =
     ap (λ (z : ℤ). filled z out) (wide-ok (c .minus-number .result) (c .minus-number .ok) ∙ c .minus-number .ensures) ∙ sym (ap given e)
 
 pub kav-line-spec : {M : Type 1} → statement M
-kav-line-spec =
-    tie.close
-    (tie.spec
-    asked-requires
-    enum-known-message
-    line-requires
-    result-requires
-    enum-told
-    minus-number-requires
-    same-length
-    returns
-    returns-2)
+kav-line-spec = tie.close (tie.spec
+    (λ c κs. search needs) (λ c. search needs) (λ c κs. search needs) (λ c κs. search needs) (λ c. search needs) (λ c κs. search needs)
+    (λ c. search needs) returns returns-2)

@@ -11,17 +11,11 @@ use borrow.Author.Needs.{needs}
 use Rattle.abi.proofs.kav_lookup.Statement.{statement}
 use Rattle.abi.proofs.kav_lookup.Tie as tie
 
-minus-number-requires : tie.Need-minus-number-requires
-minus-number-requires c κs = search needs
-
 returns : tie.Need-returns
 returns c =
     let a = c .before .before .args in
     let e = lookup-short (shown (a .bench .now) (a .maker .now) (a .identifier)) (a .row .now) (c .before .if1 .taken) in
     ap (λ (z : ℤ). filled z (a .row .now)) (wide-ok (c .minus-number .result) (c .minus-number .ok) ∙ c .minus-number .ensures) ∙ sym e
-
-lookup-requires : tie.Need-lookup-requires
-lookup-requires c κs = search needs
 
 returns-2 : tie.Need-returns-2
 returns-2 c =
@@ -29,12 +23,6 @@ returns-2 c =
     let a = k .before .before .args in
     let e = lookup-none (shown (a .bench .now) (a .maker .now) (a .identifier)) (a .row .now) (k .before .if1 .left) (λ h. c .if2 .taken (ap length (k .lookup .ensures .0) ∙ h)) in
     sym e
-
-copy-requires : tie.Need-copy-requires
-copy-requires c κs = search needs
-
-same-length : tie.Need-same-length
-same-length c = search needs
 
 returns-3 : tie.Need-returns-3
 returns-3 c =
@@ -45,6 +33,5 @@ returns-3 c =
     ap (filled _) (c .before .copy .ensures ∙ ap (λ (l : List ℤ). laid l (a .row .now)) (k .lookup .ensures .0)) ∙ sym e
 
 pub kav-lookup-spec : {M : Type 1} → statement M
-kav-lookup-spec =
-    tie.close
-    (tie.spec minus-number-requires returns lookup-requires returns-2 copy-requires same-length returns-3)
+kav-lookup-spec = tie.close (tie.spec
+    (λ c κs. search needs) returns (λ c κs. search needs) returns-2 (λ c κs. search needs) (λ c. search needs) returns-3)

@@ -7,20 +7,10 @@ use borrow.Author.Needs.{needs}
 use Rattle.abi.proofs.kav_normal_form.Statement.{statement}
 use Rattle.abi.proofs.kav_normal_form.Tie as tie
 
-normal-form-requires : tie.Need-normal-form-requires
-normal-form-requires c κs = search needs
-
-result-requires : tie.Need-result-requires
-result-requires c κs = search needs
-
-same-length : tie.Need-same-length
-same-length c = search needs
-
 returns : tie.Need-returns
 returns c =
     let n = c .before .before .before .normal-form in
     ap (λ (z : ℤ). filled z (n .last .1 .0)) (wide-ok (c .result .result) (c .result .ok) ∙ c .result .ensures) ∙ ap given (n .ensures)
 
 pub kav-normal-form-spec : {M : Type 1} → statement M
-kav-normal-form-spec =
-    tie.close (tie.spec normal-form-requires result-requires same-length returns)
+kav-normal-form-spec = tie.close (tie.spec (λ c κs. search needs) (λ c κs. search needs) (λ c. search needs) returns)

@@ -18,33 +18,12 @@ use Rattle.abi.proofs.kav_run.Tie as tie
 is : (n : tie.Else1) → isRow (n .before .before .before .before .before .before .args .card .now) ≡ true
 is n = sym (n .before .is-row .ensures) ∙ not-false _ (n .if1 .left)
 
-is-row-requires : tie.Need-is-row-requires
-is-row-requires c κs = search needs
-
-minus-number-requires : tie.Need-minus-number-requires
-minus-number-requires c κs = search needs
-
-same-length : tie.Need-same-length
-same-length c = search needs
-
 returns : tie.Need-returns
 returns c =
     let k = c .before .before in
     let a = k .before .before .before .before .before .args in
     ap (λ (z : ℤ). manyWords z (a .card .now) (a .values .now) (a .out .now) (a .counts .now)) (wide-ok (c .minus-number .result) (c .minus-number .ok) ∙ c .minus-number .ensures)
     ∙ run-not (a .card .now) (a .bench .now) (a .maker .now) (a .values .now) (a .words .now) (a .out .now) (a .counts .now) (sym (k .is-row .ensures) ∙ not-true _ (c .before .if1 .taken))
-
-card-of-requires : tie.Need-card-of-requires
-card-of-requires c κs = search needs
-
-short-run-requires : tie.Need-short-run-requires
-short-run-requires c κs = search needs
-
-same-length-2 : tie.Need-same-length-2
-same-length-2 c = search needs
-
-same-length-3 : tie.Need-same-length-3
-same-length-3 c = search needs
 
 returns-2 : tie.Need-returns-2
 returns-2 c =
@@ -53,33 +32,6 @@ returns-2 c =
     let a = n .before .before .before .before .before .before .args in
     ap (λ (z : ℤ). manyWords z (a .card .now) (a .values .now) (a .out .now) (a .counts .now)) (wide-ok (c .short-run .result) (c .short-run .ok) ∙ c .short-run .ensures)
     ∙ run-short (a .card .now) (a .bench .now) (a .maker .now) (a .values .now) (a .words .now) (a .out .now) (a .counts .now) (d .card-of .result) (is n) (d .card-of .ensures) (c .before .before .if2 .taken)
-
-run-requires : tie.Need-run-requires
-run-requires c κs = search needs
-
-enum-known-answer : tie.Need-enum-known-answer
-enum-known-answer c = search needs
-
-minus-number-requires-2 : tie.Need-minus-number-requires-2
-minus-number-requires-2 c κs = search needs
-
-enum-known-answer-2 : tie.Need-enum-known-answer-2
-enum-known-answer-2 c = search needs
-
-store-requires : tie.Need-store-requires
-store-requires c κs = search needs
-
-count-requires : tie.Need-count-requires
-count-requires c κs = search needs
-
-same-length-4 : tie.Need-same-length-4
-same-length-4 c = search needs
-
-same-length-5 : tie.Need-same-length-5
-same-length-5 c = search needs
-
-same-length-6 : tie.Need-same-length-6
-same-length-6 c = search needs
 
 returns-3 : tie.Need-returns-3
 returns-3 c =
@@ -92,18 +44,6 @@ returns-3 c =
     let v = t .run .last .1 .1 .1 in
     ap (λ (z : ℤ). manyWords z (a .card .now) (v .0) (v .1 .1 .0) (a .counts .now)) (wide-ok (c .minus-number2 .result) (c .minus-number2 .ok) ∙ c .minus-number2 .ensures)
     ∙ run-refused (a .card .now) (a .bench .now) (a .maker .now) (a .values .now) (a .words .now) (a .out .now) (a .counts .now) (d .card-of .result) (is n) (d .card-of .ensures) (b .if2 .left) (t .run .result) (v .0) (v .1 .1 .0) (t .run .ensures) _ (w .answer .given .1)
-
-same-length-7 : tie.Need-same-length-7
-same-length-7 c = search needs
-
-same-length-8 : tie.Need-same-length-8
-same-length-8 c = search needs
-
-same-length-9 : tie.Need-same-length-9
-same-length-9 c = search needs
-
-same-length-10 : tie.Need-same-length-10
-same-length-10 c = search needs
 
 returns-4 : tie.Need-returns-4
 returns-4 c =
@@ -120,30 +60,8 @@ returns-4 c =
     ∙ run-served (a .card .now) (a .bench .now) (a .maker .now) (a .values .now) (a .words .now) (a .out .now) (a .counts .now) (d .card-of .result) (is n) (d .card-of .ensures) (b .if2 .left) (t .run .result) (v .0) (v .1 .1 .0) (t .run .ensures) _ _ (w .answer2 .given .1)
 
 pub kav-run-spec : {M : Type 1} → statement M
-kav-run-spec =
-    tie.close
-    (tie.spec
-    is-row-requires
-    minus-number-requires
-    same-length
-    returns
-    card-of-requires
-    short-run-requires
-    same-length-2
-    same-length-3
-    returns-2
-    run-requires
-    enum-known-answer
-    minus-number-requires-2
-    enum-known-answer-2
-    store-requires
-    count-requires
-    same-length-4
-    same-length-5
-    same-length-6
-    returns-3
-    same-length-7
-    same-length-8
-    same-length-9
-    same-length-10
-    returns-4)
+kav-run-spec = tie.close (tie.spec
+    (λ c κs. search needs) (λ c κs. search needs) (λ c. search needs) returns (λ c κs. search needs) (λ c κs. search needs)
+    (λ c. search needs) (λ c. search needs) returns-2 (λ c κs. search needs) (λ c. search needs) (λ c κs. search needs) (λ c. search needs)
+    (λ c κs. search needs) (λ c κs. search needs) (λ c. search needs) (λ c. search needs) (λ c. search needs) returns-3 (λ c. search needs)
+    (λ c. search needs) (λ c. search needs) (λ c. search needs) returns-4)

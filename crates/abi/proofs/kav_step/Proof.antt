@@ -16,51 +16,12 @@ use Rattle.abi.proofs.kav_step.Tie as tie
 is : (n : tie.Else1) → isRow (n .before .before .before .before .args .card .now) ≡ true
 is n = sym (n .before .is-row .ensures) ∙ not-false _ (n .if1 .left)
 
-is-row-requires : tie.Need-is-row-requires
-is-row-requires c κs = search needs
-
-minus-number-requires : tie.Need-minus-number-requires
-minus-number-requires c κs = search needs
-
-same-length : tie.Need-same-length
-same-length c = search needs
-
 returns : tie.Need-returns
 returns c =
     let k = c .before .before in
     let a = k .before .before .before .args in
     ap (λ (z : ℤ). oneWord z (a .card .now) (a .values .now) (a .out .now)) (wide-ok (c .minus-number .result) (c .minus-number .ok) ∙ c .minus-number .ensures)
     ∙ step-not (a .card .now) (a .bench .now) (a .maker .now) (a .values .now) (a .word) (a .out .now) (sym (k .is-row .ensures) ∙ not-true _ (c .before .if1 .taken))
-
-card-of-requires : tie.Need-card-of-requires
-card-of-requires c κs = search needs
-
-step-requires : tie.Need-step-requires
-step-requires c κs = search needs
-
-enum-known-answer : tie.Need-enum-known-answer
-enum-known-answer c = search needs
-
-minus-number-requires-2 : tie.Need-minus-number-requires-2
-minus-number-requires-2 c κs = search needs
-
-enum-known-answer-2 : tie.Need-enum-known-answer-2
-enum-known-answer-2 c = search needs
-
-store-requires : tie.Need-store-requires
-store-requires c κs = search needs
-
-count-result-requires : tie.Need-count-result-requires
-count-result-requires c κs = search needs
-
-same-length-2 : tie.Need-same-length-2
-same-length-2 c = search needs
-
-same-length-3 : tie.Need-same-length-3
-same-length-3 c = search needs
-
-same-length-4 : tie.Need-same-length-4
-same-length-4 c = search needs
 
 returns-2 : tie.Need-returns-2
 returns-2 c =
@@ -72,15 +33,6 @@ returns-2 c =
     let v = t .step .last .1 .1 .1 in
     ap (λ (z : ℤ). oneWord z (a .card .now) (v .0) (v .1 .1 .0)) (wide-ok (c .minus-number2 .result) (c .minus-number2 .ok) ∙ c .minus-number2 .ensures)
     ∙ step-refused (a .card .now) (a .bench .now) (a .maker .now) (a .values .now) (a .word) (a .out .now) (d .card-of .result) (is n) (d .card-of .ensures) (t .step .result) (v .0) (v .1 .1 .0) (t .step .ensures) _ (w .answer .given .1)
-
-same-length-5 : tie.Need-same-length-5
-same-length-5 c = search needs
-
-same-length-6 : tie.Need-same-length-6
-same-length-6 c = search needs
-
-same-length-7 : tie.Need-same-length-7
-same-length-7 c = search needs
 
 returns-3 : tie.Need-returns-3
 returns-3 c =
@@ -95,25 +47,7 @@ returns-3 c =
     ∙ step-served (a .card .now) (a .bench .now) (a .maker .now) (a .values .now) (a .word) (a .out .now) (d .card-of .result) (is n) (d .card-of .ensures) (t .step .result) (v .0) (v .1 .1 .0) (t .step .ensures) _ (w .answer2 .given .1)
 
 pub kav-step-spec : {M : Type 1} → statement M
-kav-step-spec =
-    tie.close
-    (tie.spec
-    is-row-requires
-    minus-number-requires
-    same-length
-    returns
-    card-of-requires
-    step-requires
-    enum-known-answer
-    minus-number-requires-2
-    enum-known-answer-2
-    store-requires
-    count-result-requires
-    same-length-2
-    same-length-3
-    same-length-4
-    returns-2
-    same-length-5
-    same-length-6
-    same-length-7
-    returns-3)
+kav-step-spec = tie.close (tie.spec
+    (λ c κs. search needs) (λ c κs. search needs) (λ c. search needs) returns (λ c κs. search needs) (λ c κs. search needs)
+    (λ c. search needs) (λ c κs. search needs) (λ c. search needs) (λ c κs. search needs) (λ c κs. search needs) (λ c. search needs)
+    (λ c. search needs) (λ c. search needs) returns-2 (λ c. search needs) (λ c. search needs) (λ c. search needs) returns-3)

@@ -10,12 +10,6 @@ use borrow.Author.Needs.{needs}
 use Rattle.abi.proofs.minus_number.Statement.{statement}
 use Rattle.abi.proofs.minus_number.Tie as tie
 
-number-requires : tie.Need-number-requires
-number-requires c κs = search needs
-
-cast-result : tie.Need-cast-result
-cast-result c = search needs
-
 sub-result : tie.Need-sub-result
 sub-result c =
     let r = c .before .args .refusal in
@@ -27,4 +21,4 @@ returns c =
     toZ-ofZ w64 _ (sub-result c) ∙ below-zero _ _ (c .number .ensures) (number-small r)
 
 pub minus-number-spec : {M : Type 1} → statement M
-minus-number-spec = tie.close (tie.spec number-requires cast-result sub-result returns)
+minus-number-spec = tie.close (tie.spec (λ c κs. search needs) (λ c. search needs) sub-result returns)

@@ -10,15 +10,9 @@ returns : tie.Need-returns
 unfolding setOf
 returns c = simp (lt-leb _ _ (c .if1 .taken))
 
-cast-decimals : tie.Need-cast-decimals
-cast-decimals c = search needs
-
-heard-requires : tie.Need-heard-requires
-heard-requires c κs = search needs
-
 returns-2 : tie.Need-returns-2
 unfolding setOf
 returns-2 c = simp (le-leb _ _ (c .before .if1 .left), c .heard .ensures, rd-is (c .before .before .fits .number))
 
 pub set-of-spec : {M : Type 1} → statement M
-set-of-spec = tie.close (tie.spec returns cast-decimals heard-requires returns-2)
+set-of-spec = tie.close (tie.spec returns (λ c. search needs) (λ c κs. search needs) returns-2)

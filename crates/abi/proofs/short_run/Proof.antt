@@ -7,21 +7,6 @@ use borrow.Author.Needs.{needs}
 use Rattle.abi.proofs.short_run.Statement.{statement}
 use Rattle.abi.proofs.short_run.Tie as tie
 
-check-requires : tie.Need-check-requires
-check-requires c κs = search needs
-
-enum-known-refusal : tie.Need-enum-known-refusal
-enum-known-refusal c = search needs
-
-minus-number-requires : tie.Need-minus-number-requires
-minus-number-requires c κs = search needs
-
-enum-told : tie.Need-enum-told
-enum-told c = search needs
-
-minus-number-requires-2 : tie.Need-minus-number-requires-2
-minus-number-requires-2 c κs = search needs
-
 returns : tie.Need-returns
 returns c =
     let f = c .before .before in
@@ -33,13 +18,5 @@ returns-2 c =
     wide-ok (c .minus-number2 .result) (c .minus-number2 .ok) ∙ c .minus-number2 .ensures ∙ ap shortRun (sym (ap verdictOf (t .enum-told .given .1)) ∙ t .before .before .check .ensures)
 
 pub short-run-spec : {M : Type 1} → statement M
-short-run-spec =
-    tie.close
-    (tie.spec
-    check-requires
-    enum-known-refusal
-    minus-number-requires
-    enum-told
-    minus-number-requires-2
-    returns
-    returns-2)
+short-run-spec = tie.close (tie.spec
+    (λ c κs. search needs) (λ c. search needs) (λ c κs. search needs) (λ c. search needs) (λ c κs. search needs) returns returns-2)

@@ -13,9 +13,6 @@ use borrow.Author.Needs.{needs}
 use Rattle.act.proofs.accepts.Statement.{statement}
 use Rattle.act.proofs.accepts.Tie as tie
 
-answer-to-requires : tie.Need-answer-to-requires
-answer-to-requires c κs = search needs
-
 returns : tie.Need-returns
 unfolding accepts
 returns c =
@@ -25,4 +22,4 @@ returns c =
     λ j. record { said = Reply (a j); offer = Nothing; store = Put (s .args .message .identifier) (v j) }
 
 pub accepts-spec : {M : Type 1} → statement M
-accepts-spec = tie.close (tie.spec answer-to-requires returns)
+accepts-spec = tie.close (tie.spec (λ c κs. search needs) returns)

@@ -9,24 +9,9 @@ use Rattle.act.specs.Act.{serve, respond}
 use Rattle.act.proofs.act.Statement.{statement}
 use Rattle.act.proofs.act.Tie as tie
 
-is-for-requires : tie.Need-is-for-requires
-is-for-requires c κs = search needs
-
-silent-requires : tie.Need-silent-requires
-silent-requires c κs = search needs
-
 returns : tie.Need-returns
 unfolding respond
 returns c = c .silent .ensures ∙ sym (rw (sym (c .before .before .is-for .ensures) ∙ not-true _ (c .before .if1 .taken)))
-
-find-at-requires : tie.Need-find-at-requires
-find-at-requires c κs = search needs
-
-value-at-requires : tie.Need-value-at-requires
-value-at-requires c κs = search needs
-
-serve-requires : tie.Need-serve-requires
-serve-requires c κs = search needs
 
 returns-2 : tie.Need-returns-2
 unfolding respond
@@ -39,13 +24,5 @@ returns-2 c =
     ∙ sym (rw (sym (t .before .is-for .ensures) ∙ not-false _ (t .if1 .left)))
 
 pub act-spec : {M : Type 1} → statement M
-act-spec =
-    tie.close
-    (tie.spec
-    is-for-requires
-    silent-requires
-    returns
-    find-at-requires
-    value-at-requires
-    serve-requires
-    returns-2)
+act-spec = tie.close (tie.spec
+    (λ c κs. search needs) (λ c κs. search needs) returns (λ c κs. search needs) (λ c κs. search needs) (λ c κs. search needs) returns-2)

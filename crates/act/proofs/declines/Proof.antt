@@ -7,12 +7,6 @@ use borrow.Author.Needs.{needs}
 use Rattle.act.proofs.declines.Statement.{statement}
 use Rattle.act.proofs.declines.Tie as tie
 
-shown-by-requires : tie.Need-shown-by-requires
-shown-by-requires c κs = search needs
-
-says-requires : tie.Need-says-requires
-says-requires c κs = search needs
-
 returns : tie.Need-returns
 unfolding declines
 returns c =
@@ -20,4 +14,4 @@ returns c =
     c .says .ensures ∙ ap (says (s .args .message) Declined) (c .before .shown-by .ensures ∙ ap (shownBy (s .args .entry)) (rd-is (s .fits .value)))
 
 pub declines-spec : {M : Type 1} → statement M
-declines-spec = tie.close (tie.spec shown-by-requires says-requires returns)
+declines-spec = tie.close (tie.spec (λ c κs. search needs) (λ c κs. search needs) returns)

@@ -7,26 +7,11 @@ use borrow.Author.Needs.{needs}
 use Rattle.act.proofs.down.Statement.{statement}
 use Rattle.act.proofs.down.Tie as tie
 
-enum-known-entry : tie.Need-enum-known-entry
-enum-known-entry c = search needs
-
-enum-told : tie.Need-enum-told
-enum-told c = search needs
-
-declines-requires : tie.Need-declines-requires
-declines-requires c κs = search needs
-
 returns : tie.Need-returns
 unfolding down
 returns c =
     let s = c .before .before .before in
     c .declines .ensures ∙ ap (declines (s .args .message) (s .args .entry)) (rd-is (s .fits .value)) ∙ sym (rw (c .before .enum-told .given .1))
-
-lowered-requires : tie.Need-lowered-requires
-lowered-requires c κs = search needs
-
-moves-requires : tie.Need-moves-requires
-moves-requires c κs = search needs
 
 returns-2 : tie.Need-returns-2
 unfolding down
@@ -41,13 +26,5 @@ returns-2 c =
     ∙ sym (rw (e .1))
 
 pub down-spec : {M : Type 1} → statement M
-down-spec =
-    tie.close
-    (tie.spec
-    enum-known-entry
-    enum-told
-    declines-requires
-    returns
-    lowered-requires
-    moves-requires
-    returns-2)
+down-spec = tie.close (tie.spec
+    (λ c. search needs) (λ c. search needs) (λ c κs. search needs) returns (λ c κs. search needs) (λ c κs. search needs) returns-2)

@@ -11,18 +11,6 @@ use borrow.Author.Needs.{needs}
 use Rattle.act.proofs.moves.Statement.{statement}
 use Rattle.act.proofs.moves.Tie as tie
 
-is-read-write-requires : tie.Need-is-read-write-requires
-is-read-write-requires c κs = search needs
-
-in-range-requires : tie.Need-in-range-requires
-in-range-requires c κs = search needs
-
-accepts-requires : tie.Need-accepts-requires
-accepts-requires c κs = search needs
-
-declines-requires : tie.Need-declines-requires
-declines-requires c κs = search needs
-
 was : (c : tie.After-in-range) → (isReadWrite (c .before .before .before .before .args .row) && inRange (c .before .before .before .before .args .row .least) (c .before .before .before .before .args .next) (c .before .before .before .before .args .row .greatest))
     ≡ (c .before .before .before .is-read-write .result && c .in-range .result)
 was c =
@@ -50,12 +38,5 @@ returns-2 c =
     c .declines .ensures ∙ ap (declines (s .args .message) (Found (s .args .row))) (rd-is (s .fits .value)) ∙ sym (rw (was (c .before .before) ∙ c .before .if1 .left))
 
 pub moves-spec : {M : Type 1} → statement M
-moves-spec =
-    tie.close
-    (tie.spec
-    is-read-write-requires
-    in-range-requires
-    accepts-requires
-    declines-requires
-    returns
-    returns-2)
+moves-spec = tie.close (tie.spec
+    (λ c κs. search needs) (λ c κs. search needs) (λ c κs. search needs) (λ c κs. search needs) returns returns-2)

@@ -14,15 +14,6 @@ use borrow.Author.Needs.{needs}
 use Rattle.act.proofs.offers.Statement.{statement}
 use Rattle.act.proofs.offers.Tie as tie
 
-cut-requires : tie.Need-cut-requires
-cut-requires c κs = search needs
-
-number-in-requires : tie.Need-number-in-requires
-number-in-requires c κs = search needs
-
-answer-to-requires : tie.Need-answer-to-requires
-answer-to-requires c κs = search needs
-
 returns : tie.Need-returns
 unfolding offers
 returns c =
@@ -37,4 +28,4 @@ returns c =
     λ j. record { said = Reply (a j); offer = Held (s .args .message .identifier) (z j); store = Keep }
 
 pub offers-spec : {M : Type 1} → statement M
-offers-spec = tie.close (tie.spec cut-requires number-in-requires answer-to-requires returns)
+offers-spec = tie.close (tie.spec (λ c κs. search needs) (λ c κs. search needs) (λ c κs. search needs) returns)

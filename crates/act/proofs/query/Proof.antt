@@ -11,32 +11,11 @@ use borrow.Author.Needs.{needs}
 use Rattle.act.proofs.query.Statement.{statement}
 use Rattle.act.proofs.query.Tie as tie
 
-enum-known-entry : tie.Need-enum-known-entry
-enum-known-entry c = search needs
-
-enum-told : tie.Need-enum-told
-enum-told c = search needs
-
-declines-requires : tie.Need-declines-requires
-declines-requires c κs = search needs
-
 returns : tie.Need-returns
 unfolding query
 returns c =
     let s = c .before .before .before in
     c .declines .ensures ∙ ap (declines (s .args .message) (s .args .entry)) (rd-is (s .fits .value)) ∙ sym (rw (c .before .enum-told .given .1))
-
-is-readable-requires : tie.Need-is-readable-requires
-is-readable-requires c κs = search needs
-
-number-in-requires : tie.Need-number-in-requires
-number-in-requires c κs = search needs
-
-says-requires : tie.Need-says-requires
-says-requires c κs = search needs
-
-declines-requires-2 : tie.Need-declines-requires-2
-declines-requires-2 c κs = search needs
 
 returns-2 : tie.Need-returns-2
 unfolding query
@@ -58,16 +37,6 @@ returns-3 c =
     ∙ sym (rw (e .1) (rw (sym (c .before .before .is-readable .ensures) ∙ c .before .if1 .left)))
 
 pub query-spec : {M : Type 1} → statement M
-query-spec =
-    tie.close
-    (tie.spec
-    enum-known-entry
-    enum-told
-    declines-requires
-    returns
-    is-readable-requires
-    number-in-requires
-    says-requires
-    declines-requires-2
-    returns-2
-    returns-3)
+query-spec = tie.close (tie.spec
+    (λ c. search needs) (λ c. search needs) (λ c κs. search needs) returns (λ c κs. search needs) (λ c κs. search needs)
+    (λ c κs. search needs) (λ c κs. search needs) returns-2 returns-3)

@@ -7,12 +7,9 @@ use borrow.Author.Needs.{needs}
 use Rattle.act.proofs.says.Statement.{statement}
 use Rattle.act.proofs.says.Tie as tie
 
-answer-to-requires : tie.Need-answer-to-requires
-answer-to-requires c κs = search needs
-
 returns : tie.Need-returns
 unfolding says
 returns c = λ j. record { said = Reply (c .answer-to .ensures j); offer = Nothing; store = Keep }
 
 pub says-spec : {M : Type 1} → statement M
-says-spec = tie.close (tie.spec answer-to-requires returns)
+says-spec = tie.close (tie.spec (λ c κs. search needs) returns)

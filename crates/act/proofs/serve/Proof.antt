@@ -7,42 +7,6 @@ use borrow.Author.Needs.{needs}
 use Rattle.act.proofs.serve.Statement.{statement}
 use Rattle.act.proofs.serve.Tie as tie
 
-enum-told : tie.Need-enum-told
-enum-told c = search needs
-
-says-requires : tie.Need-says-requires
-says-requires c κs = search needs
-
-enum-told-2 : tie.Need-enum-told-2
-enum-told-2 c = search needs
-
-query-requires : tie.Need-query-requires
-query-requires c κs = search needs
-
-enum-told-3 : tie.Need-enum-told-3
-enum-told-3 c = search needs
-
-up-requires : tie.Need-up-requires
-up-requires c κs = search needs
-
-enum-told-4 : tie.Need-enum-told-4
-enum-told-4 c = search needs
-
-down-requires : tie.Need-down-requires
-down-requires c κs = search needs
-
-enum-known-body : tie.Need-enum-known-body
-enum-known-body c = search needs
-
-set-to-requires : tie.Need-set-to-requires
-set-to-requires c κs = search needs
-
-enum-told-5 : tie.Need-enum-told-5
-enum-told-5 c = search needs
-
-store-offer-requires : tie.Need-store-offer-requires
-store-offer-requires c κs = search needs
-
 returns : tie.Need-returns
 unfolding serve
 returns c = c .says .ensures ∙ sym (rw (c .before .enum-told .given .1))
@@ -77,24 +41,7 @@ unfolding serve
 returns-6 c = c .store-offer .ensures ∙ sym (rw (c .before .enum-told5 .given .1))
 
 pub serve-spec : {M : Type 1} → statement M
-serve-spec =
-    tie.close
-    (tie.spec
-    enum-told
-    says-requires
-    enum-told-2
-    query-requires
-    enum-told-3
-    up-requires
-    enum-told-4
-    down-requires
-    enum-known-body
-    set-to-requires
-    enum-told-5
-    store-offer-requires
-    returns
-    returns-2
-    returns-3
-    returns-4
-    returns-5
-    returns-6)
+serve-spec = tie.close (tie.spec
+    (λ c. search needs) (λ c κs. search needs) (λ c. search needs) (λ c κs. search needs) (λ c. search needs) (λ c κs. search needs)
+    (λ c. search needs) (λ c κs. search needs) (λ c. search needs) (λ c κs. search needs) (λ c. search needs) (λ c κs. search needs)
+    returns returns-2 returns-3 returns-4 returns-5 returns-6)

@@ -14,15 +14,6 @@ use borrow.Author.Needs.{needs}
 use Rattle.act.proofs.set_to.Statement.{statement}
 use Rattle.act.proofs.set_to.Tie as tie
 
-enum-known-entry : tie.Need-enum-known-entry
-enum-known-entry c = search needs
-
-enum-told : tie.Need-enum-told
-enum-told c = search needs
-
-declines-requires : tie.Need-declines-requires
-declines-requires c κs = search needs
-
 returns : tie.Need-returns
 unfolding setTo
 returns c =
@@ -69,18 +60,6 @@ module _ (c : tie.After-in-range) where
   unfolding setTo
   refused e = rw e
 
-is-writable-requires : tie.Need-is-writable-requires
-is-writable-requires c κs = search needs
-
-in-range-requires : tie.Need-in-range-requires
-in-range-requires c κs = search needs
-
-offers-requires : tie.Need-offers-requires
-offers-requires c κs = search needs
-
-declines-requires-2 : tie.Need-declines-requires-2
-declines-requires-2 c κs = search needs
-
 returns-2 : tie.Need-returns-2
 returns-2 c =
     let n = c .before in
@@ -97,16 +76,6 @@ returns-3 c =
     c .declines2 .ensures ∙ ap (declines (s .args .message) (Found (row t))) (rd-is (s .fits .value)) ∙ sym (found t ∙ refused t (was t ∙ c .before .if1 .left))
 
 pub set-to-spec : {M : Type 1} → statement M
-set-to-spec =
-    tie.close
-    (tie.spec
-    enum-known-entry
-    enum-told
-    declines-requires
-    returns
-    is-writable-requires
-    in-range-requires
-    offers-requires
-    declines-requires-2
-    returns-2
-    returns-3)
+set-to-spec = tie.close (tie.spec
+    (λ c. search needs) (λ c. search needs) (λ c κs. search needs) returns (λ c κs. search needs) (λ c κs. search needs)
+    (λ c κs. search needs) (λ c κs. search needs) returns-2 returns-3)

@@ -9,27 +9,9 @@ use borrow.Author.Needs.{needs}
 use Rattle.act.proofs.shown_by.Statement.{statement}
 use Rattle.act.proofs.shown_by.Tie as tie
 
-enum-known-entry : tie.Need-enum-known-entry
-enum-known-entry c = search needs
-
-enum-told : tie.Need-enum-told
-enum-told c = search needs
-
-no-number-requires : tie.Need-no-number-requires
-no-number-requires c κs = search needs
-
 returns : tie.Need-returns
 unfolding shownBy
 returns c = c .no-number .ensures ∙ sym (rw (c .before .enum-told .given .1))
-
-is-readable-requires : tie.Need-is-readable-requires
-is-readable-requires c κs = search needs
-
-number-in-requires : tie.Need-number-in-requires
-number-in-requires c κs = search needs
-
-no-number-requires-2 : tie.Need-no-number-requires-2
-no-number-requires-2 c κs = search needs
 
 returns-2 : tie.Need-returns-2
 unfolding shownBy
@@ -47,15 +29,6 @@ returns-3 c =
     c .no-number2 .ensures ∙ sym (rw (e .1) (rw (sym (c .before .before .is-readable .ensures) ∙ c .before .if1 .left)))
 
 pub shown-by-spec : {M : Type 1} → statement M
-shown-by-spec =
-    tie.close
-    (tie.spec
-    enum-known-entry
-    enum-told
-    no-number-requires
-    returns
-    is-readable-requires
-    number-in-requires
-    no-number-requires-2
-    returns-2
-    returns-3)
+shown-by-spec = tie.close (tie.spec
+    (λ c. search needs) (λ c. search needs) (λ c κs. search needs) returns (λ c κs. search needs) (λ c κs. search needs)
+    (λ c κs. search needs) returns-2 returns-3)

@@ -9,27 +9,9 @@ use borrow.Author.Needs.{needs}
 use Rattle.act.proofs.store_offer.Statement.{statement}
 use Rattle.act.proofs.store_offer.Tie as tie
 
-enum-known-offer : tie.Need-enum-known-offer
-enum-known-offer c = search needs
-
-enum-told : tie.Need-enum-told
-enum-told c = search needs
-
-silent-requires : tie.Need-silent-requires
-silent-requires c κs = search needs
-
 returns : tie.Need-returns
 unfolding store
 returns c = c .silent .ensures ∙ sym (rw (c .before .enum-told .given .1))
-
-decimals-of-requires : tie.Need-decimals-of-requires
-decimals-of-requires c κs = search needs
-
-accepts-requires : tie.Need-accepts-requires
-accepts-requires c κs = search needs
-
-silent-requires-2 : tie.Need-silent-requires-2
-silent-requires-2 c κs = search needs
 
 returns-2 : tie.Need-returns-2
 unfolding store
@@ -50,15 +32,6 @@ returns-3 c =
     c .silent2 .ensures ∙ sym (rw (o .1) (rw (ne-eqb (o .0 .0) (k .before .before .before .args .message .identifier) (c .before .if1 .left))))
 
 pub store-offer-spec : {M : Type 1} → statement M
-store-offer-spec =
-    tie.close
-    (tie.spec
-    enum-known-offer
-    enum-told
-    silent-requires
-    returns
-    decimals-of-requires
-    accepts-requires
-    silent-requires-2
-    returns-2
-    returns-3)
+store-offer-spec = tie.close (tie.spec
+    (λ c. search needs) (λ c. search needs) (λ c κs. search needs) returns (λ c κs. search needs) (λ c κs. search needs)
+    (λ c κs. search needs) returns-2 returns-3)

@@ -7,26 +7,11 @@ use borrow.Author.Needs.{needs}
 use Rattle.act.proofs.up.Statement.{statement}
 use Rattle.act.proofs.up.Tie as tie
 
-enum-known-entry : tie.Need-enum-known-entry
-enum-known-entry c = search needs
-
-enum-told : tie.Need-enum-told
-enum-told c = search needs
-
-declines-requires : tie.Need-declines-requires
-declines-requires c κs = search needs
-
 returns : tie.Need-returns
 unfolding up
 returns c =
     let s = c .before .before .before in
     c .declines .ensures ∙ ap (declines (s .args .message) (s .args .entry)) (rd-is (s .fits .value)) ∙ sym (rw (c .before .enum-told .given .1))
-
-raised-requires : tie.Need-raised-requires
-raised-requires c κs = search needs
-
-moves-requires : tie.Need-moves-requires
-moves-requires c κs = search needs
 
 returns-2 : tie.Need-returns-2
 unfolding up
@@ -41,13 +26,5 @@ returns-2 c =
     ∙ sym (rw (e .1))
 
 pub up-spec : {M : Type 1} → statement M
-up-spec =
-    tie.close
-    (tie.spec
-    enum-known-entry
-    enum-told
-    declines-requires
-    returns
-    raised-requires
-    moves-requires
-    returns-2)
+up-spec = tie.close (tie.spec
+    (λ c. search needs) (λ c. search needs) (λ c κs. search needs) returns (λ c κs. search needs) (λ c κs. search needs) returns-2)

@@ -10,9 +10,6 @@ use borrow.Author.Needs.{needs}
 use Rattle.card.proofs.check.Statement.{statement}
 use Rattle.card.proofs.check.Tie as tie
 
-sound-card-requires : tie.Need-sound-card-requires
-sound-card-requires c κs = search needs
-
 -- what has passed at each place
 passed : (e : tie.Else1) → soundCard (e .before .before .before .args .card) ≡ true
 passed e = sym (e .before .sound-card .ensures) ∙ not-false _ (e .if1 .left)
@@ -34,20 +31,11 @@ returns c =
     let a = c .before .before .before .args in
     sym (card-unsound (a .card) (a .bench .now) (a .maker .now) (a .values .now) (a .words .now) (sym (c .before .sound-card .ensures) ∙ not-true _ (c .if1 .taken)))
 
-sound-sheet-requires : tie.Need-sound-sheet-requires
-sound-sheet-requires c κs = search needs
-
-sound-sheet-requires-2 : tie.Need-sound-sheet-requires-2
-sound-sheet-requires-2 c κs = search needs
-
 returns-2 : tie.Need-returns-2
 returns-2 c =
     let e = c .before .before .before in
     let a = e .before .before .before .args in
     sym (sheet-unsound (a .card) (a .bench .now) (a .maker .now) (a .values .now) (a .words .now) (passed e) (sheets (c .before) ∙ not-true _ (c .if2 .taken)))
-
-sound-offer-requires : tie.Need-sound-offer-requires
-sound-offer-requires c κs = search needs
 
 returns-3 : tie.Need-returns-3
 returns-3 c =
@@ -56,9 +44,6 @@ returns-3 c =
     let a = e .before .before .before .args in
     sym (offer-unsound (a .card) (a .bench .now) (a .maker .now) (a .values .now) (a .words .now) (passed e) (both z) (sym (c .before .sound-offer .ensures) ∙ not-true _ (c .if3 .taken)))
 
-sound-values-requires : tie.Need-sound-values-requires
-sound-values-requires c κs = search needs
-
 returns-4 : tie.Need-returns-4
 returns-4 c =
     let y = c .before .before in
@@ -66,9 +51,6 @@ returns-4 c =
     let e = z .before .before .before in
     let a = e .before .before .before .args in
     sym (values-unsound (a .card) (a .bench .now) (a .maker .now) (a .values .now) (a .words .now) (passed e) (both z) (offered y) (sym (c .before .sound-values .ensures) ∙ not-true _ (c .if4 .taken)))
-
-valid-words-requires : tie.Need-valid-words-requires
-valid-words-requires c κs = search needs
 
 returns-5 : tie.Need-returns-5
 returns-5 c =
@@ -89,18 +71,6 @@ returns-6 c =
     sym (all-sound (a .card) (a .bench .now) (a .maker .now) (a .values .now) (a .words .now) (passed e) (both z) (offered y) (valued x) (sym (c .before .valid-words .ensures) ∙ not-false _ (c .if5 .left)))
 
 pub check-spec : {M : Type 1} → statement M
-check-spec =
-    tie.close
-    (tie.spec
-    sound-card-requires
-    returns
-    sound-sheet-requires
-    sound-sheet-requires-2
-    returns-2
-    sound-offer-requires
-    returns-3
-    sound-values-requires
-    returns-4
-    valid-words-requires
-    returns-5
-    returns-6)
+check-spec = tie.close (tie.spec
+    (λ c κs. search needs) returns (λ c κs. search needs) (λ c κs. search needs) returns-2 (λ c κs. search needs) returns-3
+    (λ c κs. search needs) returns-4 (λ c κs. search needs) returns-5 returns-6)

@@ -8,15 +8,6 @@ use borrow.Author.Needs.{needs}
 use Rattle.card.proofs.run.Statement.{statement}
 use Rattle.card.proofs.run.Tie as tie
 
-check-requires : tie.Need-check-requires
-check-requires c κs = search needs
-
-enum-known-refusal : tie.Need-enum-known-refusal
-enum-known-refusal c = search needs
-
-enum-told : tie.Need-enum-told
-enum-told c = search needs
-
 -- the verdict says that the tests are passed
 passed : (k : tie.After-enum-told) → first (cardChecks (k .before .before .before .before .before .before .args .card) (k .before .before .before .before .before .before .args .bench .now) (k .before .before .before .before .before .before .args .maker .now) (k .before .before .before .before .before .before .args .values .now) (k .before .before .before .before .before .before .args .words .now)) ≡ gave tt
 passed k = sym (k .before .before .check .ensures) ∙ ap verdictOf (k .enum-told .given .1)
@@ -27,21 +18,12 @@ take-all-requires c κs =
     let a = k .before .before .before .before .before .before .args in
     sheets-passed (a .card) (a .bench .now) (a .maker .now) (a .values .now) (a .words .now) (passed k)
 
-same-length : tie.Need-same-length
-same-length c = search needs
-
 returns : tie.Need-returns
 returns c =
     let r = c .before in
     let k = r .before .before in
     let a = k .before .before .before .before .args in
     sym (run-refused (a .card) (a .bench .now) (a .maker .now) (a .values .now) (a .words .now) (a .out .now) _ (sym (k .check .ensures) ∙ ap verdictOf (r .refusal .given .1)))
-
-same-length-2 : tie.Need-same-length-2
-same-length-2 c = search needs
-
-same-length-3 : tie.Need-same-length-3
-same-length-3 c = search needs
 
 returns-2 : tie.Need-returns-2
 returns-2 c =
@@ -51,15 +33,6 @@ returns-2 c =
     t .take-all .ensures ∙ sym (run-served (a .card) (a .bench .now) (a .maker .now) (a .values .now) (a .words .now) (a .out .now) (passed k))
 
 pub run-spec : {M : Type 1} → statement M
-run-spec =
-    tie.close
-    (tie.spec
-    check-requires
-    enum-known-refusal
-    enum-told
-    take-all-requires
-    same-length
-    returns
-    same-length-2
-    same-length-3
-    returns-2)
+run-spec = tie.close (tie.spec
+    (λ c κs. search needs) (λ c. search needs) (λ c. search needs) take-all-requires (λ c. search needs) returns (λ c. search needs)
+    (λ c. search needs) returns-2)

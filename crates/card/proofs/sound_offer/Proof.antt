@@ -11,24 +11,9 @@ use borrow.Author.Needs.{needs}
 use Rattle.card.proofs.sound_offer.Statement.{statement}
 use Rattle.card.proofs.sound_offer.Tie as tie
 
-enum-known-offer : tie.Need-enum-known-offer
-enum-known-offer c = search needs
-
-enum-told : tie.Need-enum-told
-enum-told c = search needs
-
 returns : tie.Need-returns
 unfolding soundOffer
 returns c = sym (rw (c .enum-told .given .1))
-
-find-requires : tie.Need-find-requires
-find-requires c κs = search needs
-
-enum-known-row : tie.Need-enum-known-row
-enum-known-row c = search needs
-
-enum-told-2 : tie.Need-enum-told-2
-enum-told-2 c = search needs
 
 returns-2 : tie.Need-returns-2
 unfolding soundOffer offerable
@@ -36,12 +21,6 @@ returns-2 c =
     let f = c .before .before in
     let s = f .before .before .before .before in
     sym (ap (soundOffer (s .args .bench .now) (s .args .maker .now)) (f .before .before .offer .given .1) ∙ ap (λ (e : Entry). offerable e (f .before .before .offer .given .0 .1 .0)) (sym (f .find .ensures) ∙ c .enum-told2 .given .1))
-
-is-writable-requires : tie.Need-is-writable-requires
-is-writable-requires c κs = search needs
-
-fits-row-requires : tie.Need-fits-row-requires
-fits-row-requires c κs = search needs
 
 returns-3 : tie.Need-returns-3
 unfolding soundOffer offerable
@@ -55,16 +34,6 @@ returns-3 c =
     ∙ sym (ap (soundOffer (s .args .bench .now) (s .args .maker .now)) (o .1) ∙ ap (λ (e : Entry). offerable e (o .0 .1 .0)) (sym (f .find .ensures) ∙ row .1))
 
 pub sound-offer-spec : {M : Type 1} → statement M
-sound-offer-spec =
-    tie.close
-    (tie.spec
-    enum-known-offer
-    enum-told
-    returns
-    find-requires
-    enum-known-row
-    enum-told-2
-    returns-2
-    is-writable-requires
-    fits-row-requires
-    returns-3)
+sound-offer-spec = tie.close (tie.spec
+    (λ c. search needs) (λ c. search needs) returns (λ c κs. search needs) (λ c. search needs) (λ c. search needs) returns-2
+    (λ c κs. search needs) (λ c κs. search needs) returns-3)

@@ -4,15 +4,9 @@ use borrow.Author.Needs.{needs}
 use Rattle.card.proofs.sound_setup.Statement.{statement}
 use Rattle.card.proofs.sound_setup.Tie as tie
 
-is-letter-requires : tie.Need-is-letter-requires
-is-letter-requires c κs = search needs
-
-is-address-requires : tie.Need-is-address-requires
-is-address-requires c κs = search needs
-
 returns : tie.Need-returns
 unfolding soundSetup
 returns c = cc
 
 pub sound-setup-spec : {M : Type 1} → statement M
-sound-setup-spec = tie.close (tie.spec is-letter-requires is-address-requires returns)
+sound-setup-spec = tie.close (tie.spec (λ c κs. search needs) (λ c κs. search needs) returns)

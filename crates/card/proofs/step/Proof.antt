@@ -11,21 +11,6 @@ use borrow.Author.Needs.{needs}
 use Rattle.card.proofs.step.Statement.{statement}
 use Rattle.card.proofs.step.Tie as tie
 
-slice-aggregate-check : tie.Need-slice-aggregate-check
-slice-aggregate-check c = search needs
-
-check-requires : tie.Need-check-requires
-check-requires c κs = search needs
-
-enum-known-refusal : tie.Need-enum-known-refusal
-enum-known-refusal c = search needs
-
-refused-requires : tie.Need-refused-requires
-refused-requires c κs = search needs
-
-enum-told : tie.Need-enum-told
-enum-told c = search needs
-
 -- the verdict says that the tests are passed
 passed : (k : tie.After-enum-told) → first (cardChecks (k .before .before .before .before .before .before .args .card) (k .before .before .before .before .before .before .args .bench .now) (k .before .before .before .before .before .before .args .maker .now) (k .before .before .before .before .before .before .args .values .now) (k .before .before .before .before .before .before .args .word ∷ [])) ≡ gave tt
 passed k = sym (k .before .before .check .ensures) ∙ ap verdictOf (k .enum-told .given .1)
@@ -36,9 +21,6 @@ take-requires c κs =
     let a = k .before .before .before .before .before .before .args in
     sheets-passed (a .card) (a .bench .now) (a .maker .now) (a .values .now) (a .word ∷ []) (passed k)
 
-same-length : tie.Need-same-length
-same-length c = search needs
-
 returns : tie.Need-returns
 returns c =
     let r = c .before .before in
@@ -46,12 +28,6 @@ returns c =
     let a = k .before .before .before .before .args in
     ap (λ (x : Stepped). stepAfter x (a .values .now) (a .out .now)) (c .refused .ensures)
     ∙ sym (step-refused (a .card) (a .bench .now) (a .maker .now) (a .values .now) (a .word) (a .out .now) _ (sym (k .check .ensures) ∙ ap verdictOf (r .refusal .given .1)))
-
-same-length-2 : tie.Need-same-length-2
-same-length-2 c = search needs
-
-same-length-3 : tie.Need-same-length-3
-same-length-3 c = search needs
 
 returns-2 : tie.Need-returns-2
 returns-2 c =
@@ -61,17 +37,6 @@ returns-2 c =
     t .take .ensures ∙ sym (step-passed (a .card) (a .bench .now) (a .maker .now) (a .values .now) (a .word) (a .out .now) (passed k))
 
 pub step-spec : {M : Type 1} → statement M
-step-spec =
-    tie.close
-    (tie.spec
-    slice-aggregate-check
-    check-requires
-    enum-known-refusal
-    refused-requires
-    enum-told
-    take-requires
-    same-length
-    returns
-    same-length-2
-    same-length-3
-    returns-2)
+step-spec = tie.close (tie.spec
+    (λ c. search needs) (λ c κs. search needs) (λ c. search needs) (λ c κs. search needs) (λ c. search needs) take-requires
+    (λ c. search needs) returns (λ c. search needs) (λ c. search needs) returns-2)

@@ -20,9 +20,6 @@ use borrow.Author.Needs.{needs}
 use Rattle.card.proofs.take.Statement.{statement}
 use Rattle.card.proofs.take.Tie as tie
 
-refused-requires : tie.Need-refused-requires
-refused-requires c κs = search needs
-
 -- what the call comes to, short of room and with it
 module _ (s : tie.Start) where
   abbrev v : List ℤ
@@ -57,54 +54,6 @@ module _ (k : tie.After-action) where
   room : longestReply ≤ length (out begun)
   room = k .before .before .if1 .left
 
-action-requires : tie.Need-action-requires
-action-requires c κs = search needs
-
-enum-told : tie.Need-enum-told
-enum-told c = search needs
-
-quiet-requires : tie.Need-quiet-requires
-quiet-requires c κs = search needs
-
-enum-known-c : tie.Need-enum-known-c
-enum-known-c c = search needs
-
-open-requires : tie.Need-open-requires
-open-requires c κs = search needs
-
-quiet-requires-2 : tie.Need-quiet-requires-2
-quiet-requires-2 c κs = search needs
-
-enum-known-c-2 : tie.Need-enum-known-c-2
-enum-known-c-2 c = search needs
-
-add-requires : tie.Need-add-requires
-add-requires c κs = search needs
-
-quiet-requires-3 : tie.Need-quiet-requires-3
-quiet-requires-3 c κs = search needs
-
-enum-told-2 : tie.Need-enum-told-2
-enum-told-2 c = search needs
-
-close-requires : tie.Need-close-requires
-close-requires c κs = search needs
-
-close-requires-2 : tie.Need-close-requires-2
-close-requires-2 c κs = search needs
-
-answer-requires : tie.Need-answer-requires
-answer-requires c κs = search needs
-
-enum-told-3 : tie.Need-enum-told-3
-enum-told-3 c = search needs
-
-close-requires-3 : tie.Need-close-requires-3
-close-requires-3 c κs = search needs
-
-quiet-requires-4 : tie.Need-quiet-requires-4
-quiet-requires-4 c κs = search needs
-
 returns-2 : tie.Need-returns-2
 returns-2 c =
     let k = c .before .before .before in
@@ -124,12 +73,6 @@ returns-4 c =
     let k = o .before .before .before .before in
     let a = begun k .args in
     silent (begun k) (room k) _ _ (c .quiet3 .ensures) (turn-add (a .bench .now) (a .maker .now) (a .card) (a .values .now) (a .word) _ (sym (k .action .ensures) ∙ o .before .before .c2 .given .1) ∙ ap stays (sym (o .add .ensures)))
-
-same-length : tie.Need-same-length
-same-length c = search needs
-
-same-length-2 : tie.Need-same-length-2
-same-length-2 c = search needs
 
 returns-5 : tie.Need-returns-5
 unfolding turned
@@ -154,31 +97,8 @@ returns-6 c =
     silent (begun k) (room k) _ _ (c .quiet4 .ensures) (turn-drop (a .bench .now) (a .maker .now) (a .card) (a .values .now) (a .word) (sym (k .action .ensures) ∙ d .before .enum-told3 .given .1) ∙ ap stays (sym (d .close3 .ensures)))
 
 pub take-spec : {M : Type 1} → statement M
-take-spec =
-    tie.close
-    (tie.spec
-    refused-requires
-    returns
-    action-requires
-    enum-told
-    quiet-requires
-    enum-known-c
-    open-requires
-    quiet-requires-2
-    enum-known-c-2
-    add-requires
-    quiet-requires-3
-    enum-told-2
-    close-requires
-    close-requires-2
-    answer-requires
-    enum-told-3
-    close-requires-3
-    quiet-requires-4
-    returns-2
-    returns-3
-    returns-4
-    same-length
-    same-length-2
-    returns-5
-    returns-6)
+take-spec = tie.close (tie.spec
+    (λ c κs. search needs) returns (λ c κs. search needs) (λ c. search needs) (λ c κs. search needs) (λ c. search needs)
+    (λ c κs. search needs) (λ c κs. search needs) (λ c. search needs) (λ c κs. search needs) (λ c κs. search needs) (λ c. search needs)
+    (λ c κs. search needs) (λ c κs. search needs) (λ c κs. search needs) (λ c. search needs) (λ c κs. search needs) (λ c κs. search needs)
+    returns-2 returns-3 returns-4 (λ c. search needs) (λ c. search needs) returns-5 returns-6)

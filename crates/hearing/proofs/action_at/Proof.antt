@@ -6,18 +6,6 @@ use borrow.Author.Needs.{needs}
 use Rattle.hearing.proofs.action_at.Statement.{statement}
 use Rattle.hearing.proofs.action_at.Tie as tie
 
-receive-requires : tie.Need-receive-requires
-receive-requires c κs = search needs
-
-opening-requires : tie.Need-opening-requires
-opening-requires c κs = search needs
-
-receive-requires-2 : tie.Need-receive-requires-2
-receive-requires-2 c κs = search needs
-
-continuing-requires : tie.Need-continuing-requires
-continuing-requires c κs = search needs
-
 returns : tie.Need-returns
 returns c = c .opening .ensures ∙ ap opening (c .before .receive .ensures) ∙ sym (rw (eq-eqb _ _ (c .before .before .if1 .taken)))
 
@@ -25,5 +13,5 @@ returns-2 : tie.Need-returns-2
 returns-2 c = c .continuing .ensures ∙ ap continuing (c .before .receive2 .ensures) ∙ sym (rw (ne-eqb _ _ (c .before .before .if1 .left)))
 
 pub action-at-spec : {M : Type 1} → statement M
-action-at-spec =
-    tie.close (tie.spec receive-requires opening-requires receive-requires-2 continuing-requires returns returns-2)
+action-at-spec = tie.close (tie.spec
+    (λ c κs. search needs) (λ c κs. search needs) (λ c κs. search needs) (λ c κs. search needs) returns returns-2)

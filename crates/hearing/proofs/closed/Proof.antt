@@ -7,9 +7,6 @@ use borrow.Author.Needs.{needs}
 use Rattle.hearing.proofs.closed.Statement.{statement}
 use Rattle.hearing.proofs.closed.Tie as tie
 
-parse-requires : tie.Need-parse-requires
-parse-requires c κs = search needs
-
 returns : tie.Need-returns
 returns c =
     let a = c .before .before .before .args in
@@ -20,12 +17,5 @@ slice-aggregate-parse c =
     let a = c .before .before .before .args in
     sym (length-take-le (a .len) (a .chars .now) (omega arith))
 
-parse-requires-2 : tie.Need-parse-requires-2
-parse-requires-2 c κs = search needs
-
-returns-2 : tie.Need-returns-2
-returns-2 c = search needs
-
 pub closed-spec : {M : Type 1} → statement M
-closed-spec =
-    tie.close (tie.spec parse-requires returns slice-aggregate-parse parse-requires-2 returns-2)
+closed-spec = tie.close (tie.spec (λ c κs. search needs) returns slice-aggregate-parse (λ c κs. search needs) (λ c. search needs))

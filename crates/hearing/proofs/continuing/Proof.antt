@@ -5,12 +5,6 @@ use borrow.Author.Needs.{needs}
 use Rattle.hearing.proofs.continuing.Statement.{statement}
 use Rattle.hearing.proofs.continuing.Tie as tie
 
-enum-known-received : tie.Need-enum-known-received
-enum-known-received c = search needs
-
-enum-told : tie.Need-enum-told
-enum-told c = search needs
-
 returns : tie.Need-returns
 unfolding continuing
 returns c = rw (c .enum-told .given .1)
@@ -24,4 +18,4 @@ unfolding continuing
 returns-3 c = rw (c .before .before .received .given .1) (rw (ne-eqb _ _ (c .if1 .left)))
 
 pub continuing-spec : {M : Type 1} → statement M
-continuing-spec = tie.close (tie.spec enum-known-received enum-told returns returns-2 returns-3)
+continuing-spec = tie.close (tie.spec (λ c. search needs) (λ c. search needs) returns returns-2 returns-3)

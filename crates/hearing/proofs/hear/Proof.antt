@@ -18,42 +18,6 @@ did c a e = ap (perform (c .before .args .pending)) (sym (sym (c .action .ensure
 quiet : {p q : Pending} → p ≡ q → _≡_ {A = Hearing} (record { pending = p; message = Unheard }) (record { pending = q; message = Unheard })
 quiet e = λ j. record { pending = e j; message = Unheard }
 
-action-requires : tie.Need-action-requires
-action-requires c κs = search needs
-
-enum-told : tie.Need-enum-told
-enum-told c = search needs
-
-enum-known-action : tie.Need-enum-known-action
-enum-known-action c = search needs
-
-new-requires : tie.Need-new-requires
-new-requires c κs = search needs
-
-add-requires : tie.Need-add-requires
-add-requires c κs = search needs
-
-enum-known-action-2 : tie.Need-enum-known-action-2
-enum-known-action-2 c = search needs
-
-add-requires-2 : tie.Need-add-requires-2
-add-requires-2 c κs = search needs
-
-enum-told-2 : tie.Need-enum-told-2
-enum-told-2 c = search needs
-
-close-requires : tie.Need-close-requires
-close-requires c κs = search needs
-
-new-requires-2 : tie.Need-new-requires-2
-new-requires-2 c κs = search needs
-
-enum-told-3 : tie.Need-enum-told-3
-enum-told-3 c = search needs
-
-new-requires-3 : tie.Need-new-requires-3
-new-requires-3 c κs = search needs
-
 returns : tie.Need-returns
 unfolding perform
 returns c = did (c .before .before) _ (c .enum-told .given .1)
@@ -75,23 +39,7 @@ unfolding perform
 returns-5 c = quiet (c .new3 .ensures) ∙ did (c .before .before .before) _ (c .before .enum-told3 .given .1)
 
 pub hear-spec : {M : Type 1} → statement M
-hear-spec =
-    tie.close
-    (tie.spec
-    action-requires
-    enum-told
-    enum-known-action
-    new-requires
-    add-requires
-    enum-known-action-2
-    add-requires-2
-    enum-told-2
-    close-requires
-    new-requires-2
-    enum-told-3
-    new-requires-3
-    returns
-    returns-2
-    returns-3
-    returns-4
-    returns-5)
+hear-spec = tie.close (tie.spec
+    (λ c κs. search needs) (λ c. search needs) (λ c. search needs) (λ c κs. search needs) (λ c κs. search needs) (λ c. search needs)
+    (λ c κs. search needs) (λ c. search needs) (λ c κs. search needs) (λ c κs. search needs) (λ c. search needs) (λ c κs. search needs)
+    returns returns-2 returns-3 returns-4 returns-5)

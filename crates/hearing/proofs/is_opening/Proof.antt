@@ -5,21 +5,9 @@ use borrow.Author.Needs.{needs}
 use Rattle.hearing.proofs.is_opening.Statement.{statement}
 use Rattle.hearing.proofs.is_opening.Tie as tie
 
-receive-requires : tie.Need-receive-requires
-receive-requires c κs = search needs
-
-enum-known-c : tie.Need-enum-known-c
-enum-known-c c = search needs
-
-enum-told : tie.Need-enum-told
-enum-told c = search needs
-
 returns : tie.Need-returns
 unfolding isOpening
 returns c = sym (ap isOpening (sym (c .before .before .receive .ensures) ∙ c .enum-told .given .1))
-
-is-letter-requires : tie.Need-is-letter-requires
-is-letter-requires c κs = search needs
 
 returns-2 : tie.Need-returns-2
 unfolding isOpening
@@ -28,6 +16,5 @@ returns-2 c =
     c .is-letter .ensures ∙ sym (ap isOpening (sym (k .before .before .receive .ensures) ∙ k .c .given .1))
 
 pub is-opening-spec : {M : Type 1} → statement M
-is-opening-spec =
-    tie.close
-    (tie.spec receive-requires enum-known-c enum-told returns is-letter-requires returns-2)
+is-opening-spec = tie.close (tie.spec
+    (λ c κs. search needs) (λ c. search needs) (λ c. search needs) returns (λ c κs. search needs) returns-2)

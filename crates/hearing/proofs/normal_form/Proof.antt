@@ -18,16 +18,10 @@ use Rattle.hearing.proofs.normal_form.Tie as tie
 valid : (c : tie.Else1) → validWords (c .before .before .before .before .args .words .now) ≡ true
 valid c = sym (c .before .valid-words .ensures) ∙ not-false _ (c .if1 .left)
 
-valid-words-requires : tie.Need-valid-words-requires
-valid-words-requires c κs = search needs
-
 returns : tie.Need-returns
 returns c =
     let a = c .before .before .before .before .args in
     sym (normal-refused (a .words .now) (a .out .now) (sym (c .before .valid-words .ensures) ∙ not-true _ (c .if1 .taken)))
-
-fits-requires : tie.Need-fits-requires
-fits-requires c κs = search needs
 
 returns-2 : tie.Need-returns-2
 returns-2 c =
@@ -46,9 +40,6 @@ room c =
 fill-requires : tie.Need-fill-requires
 fill-requires c κs = room (c .before)
 
-same-length : tie.Need-same-length
-same-length c = search needs
-
 returns-3 : tie.Need-returns-3
 returns-3 c =
     let k = c .before .before in
@@ -59,13 +50,5 @@ returns-3 c =
     ∙ sym (normal-served (a .words .now) (a .out .now) (valid (f .before)) (room r))
 
 pub normal-form-spec : {M : Type 1} → statement M
-normal-form-spec =
-    tie.close
-    (tie.spec
-    valid-words-requires
-    returns
-    fits-requires
-    returns-2
-    fill-requires
-    same-length
-    returns-3)
+normal-form-spec = tie.close (tie.spec
+    (λ c κs. search needs) returns (λ c κs. search needs) returns-2 fill-requires (λ c. search needs) returns-3)

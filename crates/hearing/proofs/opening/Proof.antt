@@ -5,18 +5,9 @@ use borrow.Author.Needs.{needs}
 use Rattle.hearing.proofs.opening.Statement.{statement}
 use Rattle.hearing.proofs.opening.Tie as tie
 
-enum-known-received : tie.Need-enum-known-received
-enum-known-received c = search needs
-
-enum-told : tie.Need-enum-told
-enum-told c = search needs
-
 returns : tie.Need-returns
 unfolding opening
 returns c = rw (c .enum-told .given .1)
-
-is-letter-requires : tie.Need-is-letter-requires
-is-letter-requires c κs = search needs
 
 returns-2 : tie.Need-returns-2
 unfolding opening
@@ -27,6 +18,4 @@ unfolding opening
 returns-3 c = rw (c .before .before .before .received .given .1) (rw (sym (c .before .is-letter .ensures) ∙ c .if1 .left))
 
 pub opening-spec : {M : Type 1} → statement M
-opening-spec =
-    tie.close
-    (tie.spec enum-known-received enum-told returns is-letter-requires returns-2 returns-3)
+opening-spec = tie.close (tie.spec (λ c. search needs) (λ c. search needs) returns (λ c κs. search needs) returns-2 returns-3)

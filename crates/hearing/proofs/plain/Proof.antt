@@ -45,15 +45,4 @@ returns-2 c =
     let l = c .before in test-ends plainChar 0 (l .before .args .chars .now) (l .loop .inv) (c .loop-test .left)
 
 pub plain-spec : {M : Type 1} → statement M
-plain-spec =
-    tie.close
-    (tie.spec
-    Inv-loop
-    μ-loop
-    loop-holds
-    shared-slice-read-c
-    returns
-    add-i
-    loop-less
-    loop-again
-    returns-2)
+plain-spec = tie.close (tie.spec Inv-loop μ-loop loop-holds shared-slice-read-c returns add-i loop-less loop-again returns-2)

@@ -54,37 +54,10 @@ acts : (k : tie.After-action-at) (a : Action) → k .action-at .result ≡ a →
 unfolding actionOf
 acts k a e = sym (k .action-at .ensures) ∙ e
 
-action-at-requires : tie.Need-action-at-requires
-action-at-requires c κs = search needs
-
-enum-told : tie.Need-enum-told
-enum-told c = search needs
-
-enum-known-action : tie.Need-enum-known-action
-enum-known-action c = search needs
-
-element-write-chars : tie.Need-element-write-chars
-element-write-chars c = search needs
-
-enum-known-action-2 : tie.Need-enum-known-action-2
-enum-known-action-2 c = search needs
-
-element-write-chars-2 : tie.Need-element-write-chars-2
-element-write-chars-2 c = search needs
-
-add-t13 : tie.Need-add-t13
-add-t13 c = search needs
-
 returns : tie.Need-returns
 returns c =
     let k = c .before .before .before .before in
     does-add (held (k .before)) (k .before .args .word) _ (acts k (Add _) (c .before .before .action2 .given .1)) (c .if1 .taken)
-
-enum-told-2 : tie.Need-enum-told-2
-enum-told-2 c = search needs
-
-enum-told-3 : tie.Need-enum-told-3
-enum-told-3 c = search needs
 
 returns-2 : tie.Need-returns-2
 returns-2 c =
@@ -113,21 +86,6 @@ returns-6 c =
     does-drop (held (k .before)) (k .before .args .word) (acts k Drop (c .before .enum-told3 .given .1))
 
 pub take-spec : {M : Type 1} → statement M
-take-spec =
-    tie.close
-    (tie.spec
-    action-at-requires
-    enum-told
-    enum-known-action
-    element-write-chars
-    enum-known-action-2
-    element-write-chars-2
-    add-t13
-    returns
-    enum-told-2
-    enum-told-3
-    returns-2
-    returns-3
-    returns-4
-    returns-5
-    returns-6)
+take-spec = tie.close (tie.spec
+    (λ c κs. search needs) (λ c. search needs) (λ c. search needs) (λ c. search needs) (λ c. search needs) (λ c. search needs)
+    (λ c. search needs) returns (λ c. search needs) (λ c. search needs) returns-2 returns-3 returns-4 returns-5 returns-6)

@@ -70,9 +70,6 @@ module _ (m : tie.After-to-end Inv-loop μ-loop) where
 loop-holds : tie.Need-loop-holds Inv-loop μ-loop
 loop-holds c = refl
 
-to-letter-requires : tie.Need-to-letter-requires Inv-loop μ-loop
-to-letter-requires c κs = search needs
-
 mul-chars : tie.Need-mul-chars Inv-loop μ-loop
 mul-chars c = omega arith
 
@@ -81,9 +78,6 @@ shared-slice-read-chars c = omega arith
 
 cast-chars : tie.Need-cast-chars Inv-loop μ-loop
 cast-chars c = omega arith
-
-element-write-chars : tie.Need-element-write-chars Inv-loop μ-loop
-element-write-chars c = search needs
 
 add-at : tie.Need-add-at Inv-loop μ-loop
 add-at c = omega arith
@@ -126,23 +120,6 @@ returns-3 : tie.Need-returns-3 Inv-loop μ-loop
 returns-3 c = let m = c .before in answered (open-at m) (end m) (at-its-end m .still-open (omega (arith, c .if3 .taken)))
 
 pub to-close-spec : {M : Type 1} → statement M
-to-close-spec =
-    tie.close
-    (tie.spec
-    Inv-loop
-    μ-loop
-    loop-holds
-    to-letter-requires
-    mul-chars
-    shared-slice-read-chars
-    cast-chars
-    element-write-chars
-    add-at
-    loop-less
-    loop-again
-    to-end-requires
-    loop-less-2
-    loop-again-2
-    returns
-    returns-2
-    returns-3)
+to-close-spec = tie.close (tie.spec
+    Inv-loop μ-loop loop-holds (λ c κs. search needs) mul-chars shared-slice-read-chars cast-chars (λ c. search needs) add-at loop-less
+    loop-again to-end-requires loop-less-2 loop-again-2 returns returns-2 returns-3)

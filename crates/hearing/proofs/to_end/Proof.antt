@@ -35,18 +35,6 @@ mul-receive c = omega arith
 shared-slice-read-receive : tie.Need-shared-slice-read-receive Inv-loop μ-loop
 shared-slice-read-receive c = omega arith
 
-receive-requires : tie.Need-receive-requires Inv-loop μ-loop
-receive-requires c κs = search needs
-
-enum-known-c : tie.Need-enum-known-c Inv-loop μ-loop
-enum-known-c c = search needs
-
-enum-told : tie.Need-enum-told Inv-loop μ-loop
-enum-told c = search needs
-
-element-write-chars : tie.Need-element-write-chars Inv-loop μ-loop
-element-write-chars c = search needs
-
 add-len : tie.Need-add-len Inv-loop μ-loop
 add-len c = omega arith
 
@@ -129,23 +117,6 @@ returns-4 c =
     answered l (held l) (at l) (end-star (words l) (held l) (at l) (in-words r) (l .loop .inv .0) _ (carries k) (eq-eqb _ 42 (c .if1 .taken)))
 
 pub to-end-spec : {M : Type 1} → statement M
-to-end-spec =
-    tie.close
-    (tie.spec
-    Inv-loop
-    μ-loop
-    loop-holds
-    add-next
-    mul-receive
-    shared-slice-read-receive
-    receive-requires
-    enum-known-c
-    enum-told
-    returns
-    returns-2
-    element-write-chars
-    add-len
-    loop-less
-    loop-again
-    returns-3
-    returns-4)
+to-end-spec = tie.close (tie.spec
+    Inv-loop μ-loop loop-holds add-next mul-receive shared-slice-read-receive (λ c κs. search needs) (λ c. search needs)
+    (λ c. search needs) returns returns-2 (λ c. search needs) add-len loop-less loop-again returns-3 returns-4)

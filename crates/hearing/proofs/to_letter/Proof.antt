@@ -52,17 +52,6 @@ returns-2 c =
     sym (letter-here (l .before .before .args .words .now) (l .loop .at) (n .loop-test .taken) (sym (o .is-opening .ensures) ∙ c .if1 .taken)) ∙ l .loop .inv
 
 pub to-letter-spec : {M : Type 1} → statement M
-to-letter-spec =
-    tie.close
-    (tie.spec
-    Inv-loop
-    μ-loop
-    loop-holds
-    mul-is-opening
-    shared-slice-read-is-opening
-    is-opening-requires
-    add-at
-    loop-less
-    loop-again
-    returns
+to-letter-spec = tie.close (tie.spec
+    Inv-loop μ-loop loop-holds mul-is-opening shared-slice-read-is-opening is-opening-requires add-at loop-less loop-again returns
     returns-2)

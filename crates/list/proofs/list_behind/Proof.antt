@@ -5,21 +5,6 @@ use borrow.Author.Needs.{needs}
 use Rattle.list.proofs.list_behind.Statement.{statement}
 use Rattle.list.proofs.list_behind.Tie as tie
 
-sub-list : tie.Need-sub-list
-sub-list c = search needs
-
-part-list-start : tie.Need-part-list-start
-part-list-start c = search needs
-
-part-list-end : tie.Need-part-list-end
-part-list-end c = search needs
-
-list-requires : tie.Need-list-requires
-list-requires c κs = search needs
-
-same-length : tie.Need-same-length
-same-length c = search needs
-
 returns : tie.Need-returns
 returns c =
     let l = c .before .before in
@@ -29,5 +14,5 @@ returns c =
     )
 
 pub list-behind-spec : {M : Type 1} → statement M
-list-behind-spec =
-    tie.close (tie.spec sub-list part-list-start part-list-end list-requires same-length returns)
+list-behind-spec = tie.close (tie.spec
+    (λ c. search needs) (λ c. search needs) (λ c. search needs) (λ c κs. search needs) (λ c. search needs) returns)

@@ -49,19 +49,6 @@ returns-2 : tie.Need-returns-2 Inv-loop μ-loop
 returns-2 c = tt
 
 pub run-spec : {M : Type 1} → statement M
-run-spec =
-    tie.close
-    (tie.spec
-    Inv-loop
-    μ-loop
-    loop-holds
-    turn-requires
-    sub-turns
-    loop-less
-    loop-again
-    same-length
-    same-length-2
-    returns
-    same-length-3
-    same-length-4
+run-spec = tie.close (tie.spec
+    Inv-loop μ-loop loop-holds turn-requires sub-turns loop-less loop-again same-length same-length-2 returns same-length-3 same-length-4
     returns-2)

@@ -7,19 +7,10 @@ use borrow.Author.Needs.{needs}
 use Rattle.listing.proofs.line.Statement.{statement}
 use Rattle.listing.proofs.line.Tie as tie
 
-is-message-requires : tie.Need-is-message-requires
-is-message-requires c κs = search needs
-
 returns : tie.Need-returns
 returns c =
     let a = c .before .before .before .args in
     sym (line-refused (a .at) (a .message) (a .out .now) (sym (c .before .is-message .ensures) ∙ not-true _ (c .if1 .taken)))
-
-place-line-requires : tie.Need-place-line-requires
-place-line-requires c κs = search needs
-
-same-length : tie.Need-same-length
-same-length c = search needs
 
 returns-2 : tie.Need-returns-2
 returns-2 c =
@@ -31,5 +22,4 @@ returns-2 c =
     ∙ sym (line-served (a .at) (a .message) (a .out .now) (sym (i .before .is-message .ensures) ∙ not-false _ (i .if1 .left)))
 
 pub line-spec : {M : Type 1} → statement M
-line-spec =
-    tie.close (tie.spec is-message-requires returns place-line-requires same-length returns-2)
+line-spec = tie.close (tie.spec (λ c κs. search needs) returns (λ c κs. search needs) (λ c. search needs) returns-2)

@@ -34,9 +34,6 @@ loop-holds c = let a = c .before .before .before .before .args in continue-begin
 word-at-requires : tie.Need-word-at-requires Inv-loop μ-loop
 word-at-requires c κs = omega arith
 
-stopped-requires : tie.Need-stopped-requires Inv-loop μ-loop
-stopped-requires c κs = search needs
-
 -- the word, as the code has it
 module _ (wa : tie.After-word-at Inv-loop μ-loop) where
   abbrev at-loop-of-word : tie.At-loop Inv-loop μ-loop
@@ -52,12 +49,6 @@ returns c =
     let a = l .before .before .before .before .before .args in
     stops-bad (a .progress) (a .bytes .now) (a .out .now) (l .loop .out) (progressOf (l .loop .chars) (l .loop .len) (l .loop .at) (l .loop .count)) (l .loop .written) (l .loop .taken) (l .loop .inv) (wa .word-at .result) (wa .word-at .ensures) (wa .before .loop-test .taken)
     (c .stopped .result) (c .stopped .ensures) (c .before .if1 .taken)
-
-take-requires : tie.Need-take-requires Inv-loop μ-loop
-take-requires c κs = search needs
-
-wrapping-add-u64-requires : tie.Need-wrapping-add-u64-requires Inv-loop μ-loop
-wrapping-add-u64-requires c κs = search needs
 
 add-taken : tie.Need-add-taken Inv-loop μ-loop
 add-taken c = omega arith
@@ -110,9 +101,6 @@ loop-again c =
     (continue-goes-on (a .progress) (a .bytes .now) (a .out .now) (l .loop .out) (here t) (l .loop .written) (l .loop .taken) (l .loop .inv) (word t) (word-read t .word-at .ensures) (word-read t .before .loop-test .taken)
     (t .before .before .if1 .left) _ (l .loop .out) r refl)
 
-so-far-requires : tie.Need-so-far-requires Inv-loop μ-loop
-so-far-requires c κs = search needs
-
 take-word-requires : tie.Need-take-word-requires Inv-loop μ-loop
 take-word-requires c κs = omega arith
 
@@ -128,9 +116,6 @@ module _ (tw : tie.After-take-word Inv-loop μ-loop) where
   advance-is =
       subst (λ (p : Progress). AdvanceIs p (word taken-word) (at-loop taken-word .loop .written) (at-loop taken-word .loop .out) (tw .take-word .result) (tw .take-word .last .1 .1 .0))
       before-it (tw .take-word .ensures .0, tw .take-word .ensures .1)
-
-stopped-requires-2 : tie.Need-stopped-requires-2 Inv-loop μ-loop
-stopped-requires-2 c κs = search needs
 
 same-length-2 : tie.Need-same-length-2 Inv-loop μ-loop
 same-length-2 c =
@@ -167,9 +152,6 @@ loop-again-2 c =
     continue-goes-on (a .progress) (a .bytes .now) (a .out .now) (l .loop .out) (here t) (l .loop .written) (l .loop .taken) (l .loop .inv) (word t) (word-read t .word-at .ensures) (word-read t .before .loop-test .taken)
     (t .before .before .if1 .left) (tw .take-word .result) (tw .take-word .last .1 .1 .0) (advance-is tw) (not-false _ (c .before .before .before .if3 .left))
 
-stopped-requires-3 : tie.Need-stopped-requires-3 Inv-loop μ-loop
-stopped-requires-3 c κs = search needs
-
 same-length-3 : tie.Need-same-length-3 Inv-loop μ-loop
 same-length-3 c = c .before .before .loop .inv .filling .long
 
@@ -181,29 +163,7 @@ returns-3 c =
     (c .stopped3 .ensures) (c .before .loop-test .left)
 
 pub list-spec : {M : Type 1} → statement M
-list-spec =
-    tie.close
-    (tie.spec
-    Inv-loop
-    μ-loop
-    loop-holds
-    word-at-requires
-    stopped-requires
-    same-length
-    returns
-    take-requires
-    wrapping-add-u64-requires
-    add-taken
-    loop-less
-    loop-again
-    so-far-requires
-    take-word-requires
-    stopped-requires-2
-    same-length-2
-    returns-2
-    add-taken-2
-    loop-less-2
-    loop-again-2
-    stopped-requires-3
-    same-length-3
-    returns-3)
+list-spec = tie.close (tie.spec
+    Inv-loop μ-loop loop-holds word-at-requires (λ c κs. search needs) same-length returns (λ c κs. search needs) (λ c κs. search needs)
+    add-taken loop-less loop-again (λ c κs. search needs) take-word-requires (λ c κs. search needs) same-length-2 returns-2 add-taken-2
+    loop-less-2 loop-again-2 (λ c κs. search needs) same-length-3 returns-3)

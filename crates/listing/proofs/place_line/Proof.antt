@@ -9,27 +9,6 @@ use borrow.Author.Needs.{needs}
 use Rattle.listing.proofs.place_line.Statement.{statement}
 use Rattle.listing.proofs.place_line.Tie as tie
 
-slice-aggregate-put-line : tie.Need-slice-aggregate-put-line
-slice-aggregate-put-line c = search needs
-
-put-line-requires : tie.Need-put-line-requires
-put-line-requires c κs = search needs
-
-sub-place : tie.Need-sub-place
-sub-place c = search needs
-
-part-place-start : tie.Need-part-place-start
-part-place-start c = search needs
-
-part-place-end : tie.Need-part-place-end
-part-place-end c = search needs
-
-place-requires : tie.Need-place-requires
-place-requires c κs = search needs
-
-same-length : tie.Need-same-length
-same-length c = search needs
-
 returns : tie.Need-returns
 returns c =
     let w = c .before .before in
@@ -39,14 +18,6 @@ returns c =
     ∙ ap (λ (l : List ℕ). placeCall l (a .written) (a .out .now)) (part-ends _ (t .put-line .result) (t .put-line .last .0) longestLine (t .put-line .kept .0) (t .put-line .ensures))
 
 pub place-line-spec : {M : Type 1} → statement M
-place-line-spec =
-    tie.close
-    (tie.spec
-    slice-aggregate-put-line
-    put-line-requires
-    sub-place
-    part-place-start
-    part-place-end
-    place-requires
-    same-length
-    returns)
+place-line-spec = tie.close (tie.spec
+    (λ c. search needs) (λ c κs. search needs) (λ c. search needs) (λ c. search needs) (λ c. search needs) (λ c κs. search needs)
+    (λ c. search needs) returns)

@@ -4,15 +4,6 @@ use borrow.Author.Needs.{needs}
 use Rattle.listing.proofs.put_all.Statement.{statement}
 use Rattle.listing.proofs.put_all.Tie as tie
 
-sub-at : tie.Need-sub-at
-sub-at c = search needs
-
-place-requires : tie.Need-place-requires
-place-requires c κs = search needs
-
-same-length : tie.Need-same-length
-same-length c = search needs
-
 returns : tie.Need-returns
 returns c =
     let p = c .before .before .place in
@@ -20,4 +11,4 @@ returns c =
     all-before (s .args .text .now) (s .args .from) (s .args .characters .now) (s .pre) (p .ensures)
 
 pub put-all-spec : {M : Type 1} → statement M
-put-all-spec = tie.close (tie.spec sub-at place-requires same-length returns)
+put-all-spec = tie.close (tie.spec (λ c. search needs) (λ c κs. search needs) (λ c. search needs) returns)

@@ -68,20 +68,6 @@ returns c =
     putting-ends (s .args .n) (s .args .from) (s .args .text .now) (l .loop .rest) (l .loop .at) (l .loop .text) (l .loop .inv) (omega arith) (s .pre) (omega arith) (p .result) (p .last .0) (p .ensures)
 
 pub put-decimal-spec : {M : Type 1} → statement M
-put-decimal-spec =
-    tie.close
-    (tie.spec
-    Inv-loop
-    μ-loop
-    loop-holds
-    sub-at
-    cast-text
-    add-text
-    slice-write-text
-    loop-less
-    loop-again
-    cast-put
-    add-put
-    put-requires
-    same-length
+put-decimal-spec = tie.close (tie.spec
+    Inv-loop μ-loop loop-holds sub-at cast-text add-text slice-write-text loop-less loop-again cast-put add-put put-requires same-length
     returns)

@@ -5,18 +5,6 @@ use borrow.Author.Needs.{needs}
 use Rattle.listing.proofs.put_numbered.Statement.{statement}
 use Rattle.listing.proofs.put_numbered.Tie as tie
 
-put-requires : tie.Need-put-requires
-put-requires c κs = search needs
-
-put-decimal-requires : tie.Need-put-decimal-requires
-put-decimal-requires c κs = search needs
-
-put-all-requires : tie.Need-put-all-requires
-put-all-requires c κs = search needs
-
-same-length : tie.Need-same-length
-same-length c = search needs
-
 returns : tie.Need-returns
 returns c =
     let a = c .before .before .put-all in
@@ -25,5 +13,4 @@ returns c =
     ends-with (a .kept .0 ∙ d .kept .0 ∙ p .kept .0) refl (both-before (both-before (p .ensures) (d .ensures)) (a .ensures))
 
 pub put-numbered-spec : {M : Type 1} → statement M
-put-numbered-spec =
-    tie.close (tie.spec put-requires put-decimal-requires put-all-requires same-length returns)
+put-numbered-spec = tie.close (tie.spec (λ c κs. search needs) (λ c κs. search needs) (λ c κs. search needs) (λ c. search needs) returns)

@@ -4,24 +4,6 @@ use borrow.Author.Needs.{needs}
 use Rattle.listing.proofs.put_request.Statement.{statement}
 use Rattle.listing.proofs.put_request.Tie as tie
 
-put-requires : tie.Need-put-requires
-put-requires c κs = search needs
-
-put-body-requires : tie.Need-put-body-requires
-put-body-requires c κs = search needs
-
-put-requires-2 : tie.Need-put-requires-2
-put-requires-2 c κs = search needs
-
-put-requires-3 : tie.Need-put-requires-3
-put-requires-3 c κs = search needs
-
-put-requires-4 : tie.Need-put-requires-4
-put-requires-4 c κs = search needs
-
-same-length : tie.Need-same-length
-same-length c = search needs
-
 returns : tie.Need-returns
 returns c =
     let first = c .before .before in
@@ -32,13 +14,6 @@ returns c =
     both-before (both-before (both-before (both-before (feed .put .ensures) (body .put-body .ensures)) (second .put2 .ensures)) (identifier .put3 .ensures)) (first .put4 .ensures)
 
 pub put-request-spec : {M : Type 1} → statement M
-put-request-spec =
-    tie.close
-    (tie.spec
-    put-requires
-    put-body-requires
-    put-requires-2
-    put-requires-3
-    put-requires-4
-    same-length
+put-request-spec = tie.close (tie.spec
+    (λ c κs. search needs) (λ c κs. search needs) (λ c κs. search needs) (λ c κs. search needs) (λ c κs. search needs) (λ c. search needs)
     returns)

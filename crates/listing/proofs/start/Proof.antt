@@ -6,12 +6,9 @@ use borrow.Author.Needs.{needs}
 use Rattle.listing.proofs.start.Statement.{statement}
 use Rattle.listing.proofs.start.Tie as tie
 
-new-requires : tie.Need-new-requires
-new-requires c κs = search needs
-
 returns : tie.Need-returns
 unfolding start
 returns c = ap (λ (p : Pending). record { pending = p; at = 0; count = 0 }) (c .new .ensures)
 
 pub start-spec : {M : Type 1} → statement M
-start-spec = tie.close (tie.spec new-requires returns)
+start-spec = tie.close (tie.spec (λ c κs. search needs) returns)

@@ -8,21 +8,6 @@ use borrow.Author.Needs.{needs}
 use Rattle.listing.proofs.take_word.Statement.{statement}
 use Rattle.listing.proofs.take_word.Tie as tie
 
-hear-requires : tie.Need-hear-requires
-hear-requires c κs = search needs
-
-wrapping-add-u64-requires : tie.Need-wrapping-add-u64-requires
-wrapping-add-u64-requires c κs = search needs
-
-enum-known-message : tie.Need-enum-known-message
-enum-known-message c = search needs
-
-enum-told : tie.Need-enum-told
-enum-told c = search needs
-
-advance-of-requires : tie.Need-advance-of-requires
-advance-of-requires c κs = search needs
-
 returns : tie.Need-returns
 unfolding nextPosition
 returns c =
@@ -33,21 +18,6 @@ returns c =
     advance-unheard (s .args .progress) (s .args .word) (s .args .written) (s .args .out .now) (h .hear .result) (h .hear .ensures) (n .wrapping-add-u64 .result) (n .wrapping-add-u64 .ensures)
     (c .before .enum-told .given .1) (s .pre) in
     (c .advance-of .ensures ∙ r .0, r .1)
-
-place-line-requires : tie.Need-place-line-requires
-place-line-requires c κs = search needs
-
-enum-known-n : tie.Need-enum-known-n
-enum-known-n c = search needs
-
-enum-told-2 : tie.Need-enum-told-2
-enum-told-2 c = search needs
-
-advance-of-requires-2 : tie.Need-advance-of-requires-2
-advance-of-requires-2 c κs = search needs
-
-same-length : tie.Need-same-length
-same-length c = search needs
 
 returns-2 : tie.Need-returns-2
 unfolding nextPosition
@@ -78,15 +48,6 @@ add-end c =
     (g .n .given .0 .0) (g .n .given .1) in
     omega (arith, r, s .good .1 .1 .0)
 
-wrapping-add-u64-requires-2 : tie.Need-wrapping-add-u64-requires-2
-wrapping-add-u64-requires-2 c κs = search needs
-
-advance-of-requires-3 : tie.Need-advance-of-requires-3
-advance-of-requires-3 c κs = search needs
-
-same-length-2 : tie.Need-same-length-2
-same-length-2 c = search needs
-
 returns-3 : tie.Need-returns-3
 unfolding nextPosition
 returns-3 c =
@@ -104,23 +65,7 @@ returns-3 c =
     (c .advance-of3 .ensures ∙ r .0, r .1)
 
 pub take-word-spec : {M : Type 1} → statement M
-take-word-spec =
-    tie.close
-    (tie.spec
-    hear-requires
-    wrapping-add-u64-requires
-    enum-known-message
-    enum-told
-    advance-of-requires
-    returns
-    place-line-requires
-    enum-known-n
-    enum-told-2
-    advance-of-requires-2
-    same-length
-    returns-2
-    add-end
-    wrapping-add-u64-requires-2
-    advance-of-requires-3
-    same-length-2
-    returns-3)
+take-word-spec = tie.close (tie.spec
+    (λ c κs. search needs) (λ c κs. search needs) (λ c. search needs) (λ c. search needs) (λ c κs. search needs) returns
+    (λ c κs. search needs) (λ c. search needs) (λ c. search needs) (λ c κs. search needs) (λ c. search needs) returns-2 add-end
+    (λ c κs. search needs) (λ c κs. search needs) (λ c. search needs) returns-3)

@@ -13,36 +13,6 @@ use Rattle.message.proofs.behind_hash.Tie as tie
 returns : tie.Need-returns
 returns c = sym (not-five _ _ _ _ (c .if1 .taken))
 
-shared-slice-read-a : tie.Need-shared-slice-read-a
-shared-slice-read-a c = search needs
-
-shared-slice-read-b : tie.Need-shared-slice-read-b
-shared-slice-read-b c = search needs
-
-shared-slice-read-c : tie.Need-shared-slice-read-c
-shared-slice-read-c c = search needs
-
-shared-slice-read-d : tie.Need-shared-slice-read-d
-shared-slice-read-d c = search needs
-
-shared-slice-read-e : tie.Need-shared-slice-read-e
-shared-slice-read-e c = search needs
-
-read-data-requires : tie.Need-read-data-requires
-read-data-requires c κs = search needs
-
-enum-told : tie.Need-enum-told
-enum-told c = search needs
-
-enum-known-data : tie.Need-enum-known-data
-enum-known-data c = search needs
-
-heard-requires : tie.Need-heard-requires
-heard-requires c κs = search needs
-
-enum-told-2 : tie.Need-enum-told-2
-enum-told-2 c = search needs
-
 -- the array holds all that is behind `#`
 module _ (r : tie.After-read-data) where
   abbrev cs : List ℕ
@@ -66,20 +36,6 @@ unfolding extendData finish
 returns-4 c = rw (read-is (c .before .before) ∙ c .enum-told2 .given .1)
 
 pub behind-hash-spec : {M : Type 1} → statement M
-behind-hash-spec =
-    tie.close
-    (tie.spec
-    returns
-    shared-slice-read-a
-    shared-slice-read-b
-    shared-slice-read-c
-    shared-slice-read-d
-    shared-slice-read-e
-    read-data-requires
-    enum-told
-    enum-known-data
-    heard-requires
-    enum-told-2
-    returns-2
-    returns-3
-    returns-4)
+behind-hash-spec = tie.close (tie.spec
+    returns (λ c. search needs) (λ c. search needs) (λ c. search needs) (λ c. search needs) (λ c. search needs) (λ c κs. search needs)
+    (λ c. search needs) (λ c. search needs) (λ c κs. search needs) (λ c. search needs) returns-2 returns-3 returns-4)

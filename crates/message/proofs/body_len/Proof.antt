@@ -8,15 +8,6 @@ use borrow.Author.Needs.{needs}
 use Rattle.message.proofs.body_len.Statement.{statement}
 use Rattle.message.proofs.body_len.Tie as tie
 
-kind-of-requires : tie.Need-kind-of-requires
-kind-of-requires c κs = search needs
-
-enum-told : tie.Need-enum-told
-enum-told c = search needs
-
-enum-told-2 : tie.Need-enum-told-2
-enum-told-2 c = search needs
-
 returns : tie.Need-returns
 unfolding spellKind
 returns c = sym (rw (sym (c .before .before .kind-of .ensures) ∙ c .enum-told .given .1))
@@ -25,4 +16,4 @@ returns-2 : tie.Need-returns-2
 returns-2 c = sym (ap (λ (k : Kind). length (spellKind k)) (sym (c .before .before .kind-of .ensures) ∙ c .enum-told2 .given .1) ∙ data-kind-length _)
 
 pub body-len-spec : {M : Type 1} → statement M
-body-len-spec = tie.close (tie.spec kind-of-requires enum-told enum-told-2 returns returns-2)
+body-len-spec = tie.close (tie.spec (λ c κs. search needs) (λ c. search needs) (λ c. search needs) returns returns-2)

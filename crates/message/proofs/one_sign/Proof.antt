@@ -12,15 +12,9 @@ use borrow.Author.Needs.{needs}
 use Rattle.message.proofs.one_sign.Statement.{statement}
 use Rattle.message.proofs.one_sign.Tie as tie
 
-heard-requires : tie.Need-heard-requires
-heard-requires c κs = search needs
-
 returns : tie.Need-returns
 unfolding extendBody finish
 returns c = c .heard .ensures ∙ sym (rw (eq-eqb _ _ (c .before .if2 .taken), eq-eqb _ _ (c .before .before .if1 .taken)))
-
-heard-requires-2 : tie.Need-heard-requires-2
-heard-requires-2 c κs = search needs
 
 returns-2 : tie.Need-returns-2
 unfolding extendBody finish
@@ -30,17 +24,11 @@ returns-3 : tie.Need-returns-3
 unfolding extendBody finish
 returns-3 c = rw (eq-eqb _ _ (c .if3 .taken), ne-eqb _ _ (c .before .if1 .left))
 
-heard-requires-3 : tie.Need-heard-requires-3
-heard-requires-3 c κs = search needs
-
 returns-4 : tie.Need-returns-4
 unfolding extendBody finish
 returns-4 c =
     let e = c .before .before in
     c .heard3 .ensures ∙ sym (rw (ne-eqb _ _ (e .if3 .left), ne-eqb _ _ (e .before .if1 .left), eq-eqb _ _ (c .before .if4 .taken)))
-
-heard-requires-4 : tie.Need-heard-requires-4
-heard-requires-4 c κs = search needs
 
 returns-5 : tie.Need-returns-5
 unfolding extendBody finish
@@ -48,9 +36,6 @@ returns-5 c =
     let f = c .before .before in
     let e = f .before in
     c .heard4 .ensures ∙ sym (rw (ne-eqb _ _ (e .if3 .left), ne-eqb _ _ (e .before .if1 .left), ne-eqb _ _ (f .if4 .left), eq-eqb _ _ (c .before .if5 .taken)))
-
-heard-requires-5 : tie.Need-heard-requires-5
-heard-requires-5 c κs = search needs
 
 returns-6 : tie.Need-returns-6
 unfolding extendBody finish
@@ -73,18 +58,6 @@ returns-7 c =
     (choice (λ (s : Prefix). Unheard ≡ finish s) (eqb (a .c) (code "#")) {x = Digits (a .letter) (a .address) (a .identifier) start} {y = Wrong} (λ _. refl) (λ _. refl))
 
 pub one-sign-spec : {M : Type 1} → statement M
-one-sign-spec =
-    tie.close
-    (tie.spec
-    heard-requires
-    returns
-    heard-requires-2
-    returns-2
-    returns-3
-    heard-requires-3
-    returns-4
-    heard-requires-4
-    returns-5
-    heard-requires-5
-    returns-6
-    returns-7)
+one-sign-spec = tie.close (tie.spec
+    (λ c κs. search needs) returns (λ c κs. search needs) returns-2 returns-3 (λ c κs. search needs) returns-4 (λ c κs. search needs)
+    returns-5 (λ c κs. search needs) returns-6 returns-7)

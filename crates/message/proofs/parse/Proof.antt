@@ -22,15 +22,6 @@ use Rattle.message.proofs.parse.Tie as tie
 returns : tie.Need-returns
 returns c = sym (too-short _ (c .if1 .taken))
 
-shared-slice-read-letter : tie.Need-shared-slice-read-letter
-shared-slice-read-letter c = search needs
-
-shared-slice-read-first : tie.Need-shared-slice-read-first
-shared-slice-read-first c = search needs
-
-is-letter-requires : tie.Need-is-letter-requires
-is-letter-requires c κs = search needs
-
 -- the first characters
 module _ (t : tie.After-is-letter) where
   abbrev cs : List ℕ
@@ -56,9 +47,6 @@ returns-2 c =
 
 is-letter : (c : tie.Else2) → isLetter (l (c .before)) ≡ true
 is-letter c = sym (c .before .is-letter .ensures) ∙ not-false _ (c .if2 .left)
-
-is-digit-requires : tie.Need-is-digit-requires
-is-digit-requires c κs = search needs
 
 returns-3 : tie.Need-returns-3
 returns-3 c =
@@ -101,14 +89,8 @@ module _ (c : tie.Else3) where
       past-digit
       ∙ one-is-all (l there) one (drop 2 (cs there)) (λ h. omega (arith, length-drop 2 (cs there))) (λ h. omega (arith, length-drop 2 (cs there)))
 
-shared-slice-read-second : tie.Need-shared-slice-read-second
-shared-slice-read-second c = search needs
-
 sub-address : tie.Need-sub-address
 sub-address c = digit-ends _ (is-digit (c .before)) .0
-
-is-digit-requires-2 : tie.Need-is-digit-requires-2
-is-digit-requires-2 c κs = search needs
 
 returns-4 : tie.Need-returns-4
 returns-4 c =
@@ -131,18 +113,6 @@ sub-address-2 c = digit-ends _ (is-second c) .0
 
 add-address : tie.Need-add-address
 add-address c = record { fits = omega (arith, digit-ends _ (is-digit (c .before .before .before .before .before)) .1, digit-ends _ (is-second c) .1) }
-
-shared-slice-read-identifier : tie.Need-shared-slice-read-identifier
-shared-slice-read-identifier c = search needs
-
-sub-last : tie.Need-sub-last
-sub-last c = search needs
-
-shared-slice-read-with-sign : tie.Need-shared-slice-read-with-sign
-shared-slice-read-with-sign c = search needs
-
-with-sign-requires : tie.Need-with-sign-requires
-with-sign-requires c κs = search needs
 
 -- an address, an identifier and one character, by the length
 module _ (j : tie.Joined5) where
@@ -175,9 +145,6 @@ module _ (j : tie.Joined5) where
 
 returns-5 : tie.Need-returns-5
 returns-5 c = c .with-sign .ensures ∙ sign-is (c .before .before)
-
-is-digit-requires-3 : tie.Need-is-digit-requires-3
-is-digit-requires-3 c κs = search needs
 
 second-is : (c : tie.Then7) → isDigit (e (there (c .before .before .before .before))) ≡ true
 second-is c = sym (c .before .is-digit3 .ensures) ∙ c .if7 .taken
@@ -216,9 +183,6 @@ sub-with-data c = omega (arith, near (c .before))
 part-with-data-start : tie.Need-part-with-data-start
 part-with-data-start c = let h : c .before .if7 .at ≤ length (all (c .before)) = sub-with-data c in search needs
 
-part-with-data-end : tie.Need-part-with-data-end
-part-with-data-end c = search needs
-
 with-data-requires : tie.Need-with-data-requires
 with-data-requires c κs =
     let j = c .before .before in
@@ -230,34 +194,8 @@ returns-6 c =
     c .with-data .ensures ∙ ap (leads (Address (l (there (at-digit j))) (j .if7 .address))) (part-all (all j) (j .if7 .at)) ∙ rest-is j
 
 pub parse-spec : {M : Type 1} → statement M
-parse-spec =
-    tie.close
-    (tie.spec
-    returns
-    shared-slice-read-letter
-    shared-slice-read-first
-    is-letter-requires
-    returns-2
-    is-digit-requires
-    returns-3
-    shared-slice-read-second
-    sub-address
-    is-digit-requires-2
-    returns-4
-    mul-address
-    sub-address-2
-    add-address
-    shared-slice-read-identifier
-    sub-last
-    shared-slice-read-with-sign
-    with-sign-requires
-    returns-5
-    is-digit-requires-3
-    mul-address-2
-    sub-address-3
-    add-address-2
-    sub-with-data
-    part-with-data-start
-    part-with-data-end
-    with-data-requires
-    returns-6)
+parse-spec = tie.close (tie.spec
+    returns (λ c. search needs) (λ c. search needs) (λ c κs. search needs) returns-2 (λ c κs. search needs) returns-3 (λ c. search needs)
+    sub-address (λ c κs. search needs) returns-4 mul-address sub-address-2 add-address (λ c. search needs) (λ c. search needs)
+    (λ c. search needs) (λ c κs. search needs) returns-5 (λ c κs. search needs) mul-address-2 sub-address-3 add-address-2 sub-with-data
+    part-with-data-start (λ c. search needs) with-data-requires returns-6)

@@ -10,42 +10,6 @@ use borrow.Author.Needs.{needs}
 use Rattle.message.proofs.spell.Statement.{statement}
 use Rattle.message.proofs.spell.Tie as tie
 
-new-requires : tie.Need-new-requires
-new-requires c κs = search needs
-
-put-requires : tie.Need-put-requires
-put-requires c κs = search needs
-
-put-address-requires : tie.Need-put-address-requires
-put-address-requires c κs = search needs
-
-put-requires-2 : tie.Need-put-requires-2
-put-requires-2 c κs = search needs
-
-kind-of-requires : tie.Need-kind-of-requires
-kind-of-requires c κs = search needs
-
-enum-known-c : tie.Need-enum-known-c
-enum-known-c c = search needs
-
-put-requires-3 : tie.Need-put-requires-3
-put-requires-3 c κs = search needs
-
-put-requires-4 : tie.Need-put-requires-4
-put-requires-4 c κs = search needs
-
-enum-known-x : tie.Need-enum-known-x
-enum-known-x c = search needs
-
-put-requires-5 : tie.Need-put-requires-5
-put-requires-5 c κs = search needs
-
-put-data-requires : tie.Need-put-data-requires
-put-data-requires c κs = search needs
-
-put-requires-6 : tie.Need-put-requires-6
-put-requires-6 c κs = search needs
-
 -- the line before the body, and which body it is
 module _ (k : tie.After-kind-of) where
   abbrev asked : Message
@@ -74,20 +38,7 @@ returns-2 c =
     ends k _ _ (d .put-data .ensures ∙ sym (rw (sym (k .kind-of .ensures) ∙ s .x .given .1) (rw (d .before .put5 .ensures)))) (c .put6 .ensures)
 
 pub spell-spec : {M : Type 1} → statement M
-spell-spec =
-    tie.close
-    (tie.spec
-    new-requires
-    put-requires
-    put-address-requires
-    put-requires-2
-    kind-of-requires
-    enum-known-c
-    put-requires-3
-    put-requires-4
-    enum-known-x
-    put-requires-5
-    put-data-requires
-    put-requires-6
-    returns
-    returns-2)
+spell-spec = tie.close (tie.spec
+    (λ c κs. search needs) (λ c κs. search needs) (λ c κs. search needs) (λ c κs. search needs) (λ c κs. search needs) (λ c. search needs)
+    (λ c κs. search needs) (λ c κs. search needs) (λ c. search needs) (λ c κs. search needs) (λ c κs. search needs) (λ c κs. search needs)
+    returns returns-2)

@@ -5,12 +5,6 @@ use borrow.Author.Needs.{needs}
 use Rattle.message.proofs.spelled_len.Statement.{statement}
 use Rattle.message.proofs.spelled_len.Tie as tie
 
-address-len-requires : tie.Need-address-len-requires
-address-len-requires c κs = search needs
-
-body-len-requires : tie.Need-body-len-requires
-body-len-requires c κs = search needs
-
 add-result : tie.Need-add-result
 add-result c =
     let m = c .before .before .args .message in
@@ -27,5 +21,4 @@ returns c =
     omega (arith, c .before .address-len .ensures, c .body-len .ensures, spell-parts m)
 
 pub spelled-len-spec : {M : Type 1} → statement M
-spelled-len-spec =
-    tie.close (tie.spec address-len-requires body-len-requires add-result add-result-2 returns)
+spelled-len-spec = tie.close (tie.spec (λ c κs. search needs) (λ c κs. search needs) add-result add-result-2 returns)

@@ -19,15 +19,6 @@ use borrow.Author.Needs.{needs}
 use Rattle.message.proofs.with_data.Statement.{statement}
 use Rattle.message.proofs.with_data.Tie as tie
 
-shared-slice-read-identifier : tie.Need-shared-slice-read-identifier
-shared-slice-read-identifier c = search needs
-
-shared-slice-read-c : tie.Need-shared-slice-read-c
-shared-slice-read-c c = search needs
-
-is-address-requires : tie.Need-is-address-requires
-is-address-requires c κs = search needs
-
 -- the next two characters
 module _ (t : tie.After-is-address) where
   abbrev l : ℕ
@@ -57,9 +48,6 @@ is-address k = sym (k .before .is-address .ensures) ∙ not-false _ (k .if1 .lef
 returns : tie.Need-returns
 returns c = unheard (c .before) (rw (sym (c .before .is-address .ensures) ∙ not-true _ (c .if1 .taken)))
 
-is-identifier-requires : tie.Need-is-identifier-requires
-is-identifier-requires c κs = search needs
-
 returns-2 : tie.Need-returns-2
 returns-2 c =
     let k = c .before .before in
@@ -75,18 +63,6 @@ module _ (k : tie.Else2) where
       past here
       ∙ ap (λ (s : Prefix). leads (extend s (c here)) (drop 2 (cs here)))
       (identifier (l here) (a here) (i here) (and-both (is-address (k .before .before)) (sym (k .before .is-identifier .ensures) ∙ not-false _ (k .if2 .left))))
-
-sub-behind-hash : tie.Need-sub-behind-hash
-sub-behind-hash c = search needs
-
-part-behind-hash-start : tie.Need-part-behind-hash-start
-part-behind-hash-start c = search needs
-
-part-behind-hash-end : tie.Need-part-behind-hash-end
-part-behind-hash-end c = search needs
-
-behind-hash-requires : tie.Need-behind-hash-requires
-behind-hash-requires c κs = search needs
 
 returns-3 : tie.Need-returns-3
 returns-3 x =
@@ -107,18 +83,6 @@ returns-4 x =
     sym (past-identifier k ∙ no-more (l t) (a t) (i t) (c t) (drop 2 (cs t)) more (x .if3 .left))
 
 pub with-data-spec : {M : Type 1} → statement M
-with-data-spec =
-    tie.close
-    (tie.spec
-    shared-slice-read-identifier
-    shared-slice-read-c
-    is-address-requires
-    returns
-    is-identifier-requires
-    returns-2
-    sub-behind-hash
-    part-behind-hash-start
-    part-behind-hash-end
-    behind-hash-requires
-    returns-3
-    returns-4)
+with-data-spec = tie.close (tie.spec
+    (λ c. search needs) (λ c. search needs) (λ c κs. search needs) returns (λ c κs. search needs) returns-2 (λ c. search needs)
+    (λ c. search needs) (λ c. search needs) (λ c κs. search needs) returns-3 returns-4)

@@ -11,9 +11,6 @@ use borrow.Author.Needs.{needs}
 use Rattle.message.proofs.with_sign.Statement.{statement}
 use Rattle.message.proofs.with_sign.Tie as tie
 
-is-address-requires : tie.Need-is-address-requires
-is-address-requires c κs = search needs
-
 is-address : (c : tie.Else1) → isAddress (c .before .before .args .address) ≡ true
 is-address c = sym (c .before .is-address .ensures) ∙ not-false _ (c .if1 .left)
 
@@ -23,18 +20,12 @@ returns c =
     let a = c .before .before .args in
     sym (no-identifier (a .letter) (a .address) (a .identifier) (a .c) [] (rw (sym (c .before .is-address .ensures) ∙ not-true _ (c .if1 .taken))))
 
-is-identifier-requires : tie.Need-is-identifier-requires
-is-identifier-requires c κs = search needs
-
 returns-2 : tie.Need-returns-2
 unfolding extendAll
 returns-2 c =
     let e = c .before .before in
     let a = e .before .before .args in
     sym (no-identifier (a .letter) (a .address) (a .identifier) (a .c) [] (rw (is-address e, sym (c .before .is-identifier .ensures) ∙ not-true _ (c .if2 .taken))))
-
-one-sign-requires : tie.Need-one-sign-requires
-one-sign-requires c κs = search needs
 
 returns-3 : tie.Need-returns-3
 unfolding extend
@@ -46,12 +37,4 @@ returns-3 c =
     ∙ sym (ap (λ (s : Prefix). finish (extend s (a .c))) (identifier (a .letter) (a .address) (a .identifier) (and-both (is-address e) (sym (i .before .is-identifier .ensures) ∙ not-false _ (i .if2 .left)))))
 
 pub with-sign-spec : {M : Type 1} → statement M
-with-sign-spec =
-    tie.close
-    (tie.spec
-    is-address-requires
-    returns
-    is-identifier-requires
-    returns-2
-    one-sign-requires
-    returns-3)
+with-sign-spec = tie.close (tie.spec (λ c κs. search needs) returns (λ c κs. search needs) returns-2 (λ c κs. search needs) returns-3)

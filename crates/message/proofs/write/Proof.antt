@@ -14,22 +14,10 @@ use borrow.Author.Tests.{not-true, not-false}
 use Rattle.message.proofs.write.Statement.{statement}
 use Rattle.message.proofs.write.Tie as tie
 
-is-message-requires : tie.Need-is-message-requires
-is-message-requires c κs = search needs
-
 returns : tie.Need-returns
 returns c =
     let a = c .before .before .before .args in
     sym (write-refused (a .message) (a .out .now) (sym (c .before .is-message .ensures) ∙ not-true _ (c .if1 .taken)))
-
-spell-requires : tie.Need-spell-requires
-spell-requires c κs = search needs
-
-write-requires : tie.Need-write-requires
-write-requires c κs = search needs
-
-same-length : tie.Need-same-length
-same-length c = search needs
 
 returns-2 : tie.Need-returns-2
 returns-2 c =
@@ -42,6 +30,4 @@ returns-2 c =
     ∙ sym (write-served (a .message) (a .out .now) (sym (t .before .is-message .ensures) ∙ not-false _ (t .if1 .left)))
 
 pub write-spec : {M : Type 1} → statement M
-write-spec =
-    tie.close
-    (tie.spec is-message-requires returns spell-requires write-requires same-length returns-2)
+write-spec = tie.close (tie.spec (λ c κs. search needs) returns (λ c κs. search needs) (λ c κs. search needs) (λ c. search needs) returns-2)

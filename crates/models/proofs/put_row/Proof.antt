@@ -67,19 +67,6 @@ returns c =
     (c .before .loop .inv .2 ∙ ap (λ (m : ℕ). paste (a .sheet .now) (a .at) (a .t3) m) e, search needs)
 
 pub put-row-spec : {M : Type 1} → statement M
-put-row-spec =
-    tie.close
-    (tie.spec
-    Inv-loop
-    μ-loop
-    loop-holds
-    add-place
-    mul-sheet
-    array-copy-out-sheet
-    mul-t12
-    slice-set-from-sheet
-    add-k
-    loop-less
-    loop-again
-    same-length
+put-row-spec = tie.close (tie.spec
+    Inv-loop μ-loop loop-holds add-place mul-sheet array-copy-out-sheet mul-t12 slice-set-from-sheet add-k loop-less loop-again same-length
     returns)

@@ -83,18 +83,6 @@ returns c =
     ∙ take-all (l .loop .i * 6) (l .loop .sheet) (omega arith))
 
 pub put-rows-spec : {M : Type 1} → statement M
-put-rows-spec =
-    tie.close
-    (tie.spec
-    Inv-loop
-    μ-loop
-    loop-holds
-    mul-at
-    mul-put-row
-    shared-slice-copy-out-put-row
-    put-row-requires
-    add-i
-    loop-less
-    loop-again
-    same-length
+put-rows-spec = tie.close (tie.spec
+    Inv-loop μ-loop loop-holds mul-at mul-put-row shared-slice-copy-out-put-row put-row-requires add-i loop-less loop-again same-length
     returns)

@@ -129,23 +129,6 @@ returns c =
     sym (l .loop .inv .3 ∙ ap (filled (l .loop .values)) (drop-of-length-le (a .table .now) {i = l .loop .i} (omega arith)))
 
 pub put-values-spec : {M : Type 1} → statement M
-put-values-spec =
-    tie.close
-    (tie.spec
-    Inv-loop
-    μ-loop
-    loop-holds
-    mul-place
-    index-1-place
-    index-2-place
-    cast-place
-    mul-values
-    index-1-values
-    index-2-values
-    mul-t14
-    slice-set-from-values
-    add-i
-    loop-less
-    loop-again
-    same-length
-    returns)
+put-values-spec = tie.close (tie.spec
+    Inv-loop μ-loop loop-holds mul-place index-1-place index-2-place cast-place mul-values index-1-values index-2-values mul-t14
+    slice-set-from-values add-i loop-less loop-again same-length returns)

@@ -6,15 +6,6 @@ use Rattle.models.proofs.Models.{udi1500-sound}
 use Rattle.models.proofs.udi1500_values.Statement.{statement}
 use Rattle.models.proofs.udi1500_values.Tie as tie
 
-indicator-requires : tie.Need-indicator-requires
-indicator-requires c κs = search needs
-
-slice-aggregate-put-values : tie.Need-slice-aggregate-put-values
-slice-aggregate-put-values c = search needs
-
-slice-aggregate-put-values-2 : tie.Need-slice-aggregate-put-values-2
-slice-aggregate-put-values-2 c = search needs
-
 put-values-requires : tie.Need-put-values-requires
 put-values-requires c κs = (rw (c .before .before .indicator .ensures, udi1500-sound .codes), refl)
 
@@ -23,6 +14,4 @@ unfolding valuesOf filled
 returns c = rw (c .before .before .before .before .indicator .ensures) at (c .before .put-values .ensures)
 
 pub udi1500-values-spec : {M : Type 1} → statement M
-udi1500-values-spec =
-    tie.close
-    (tie.spec indicator-requires slice-aggregate-put-values slice-aggregate-put-values-2 put-values-requires returns)
+udi1500-values-spec = tie.close (tie.spec (λ c κs. search needs) (λ c. search needs) (λ c. search needs) put-values-requires returns)

@@ -7,9 +7,6 @@ use Rattle.number.proofs.Signed.{rd-is, below-zero, from-zero}
 use Rattle.number.proofs.code.Statement.{statement}
 use Rattle.number.proofs.code.Tie as tie
 
-add-result : tie.Need-add-result
-add-result c = search needs
-
 returns : tie.Need-returns
 unfolding codeOf
 returns c =
@@ -25,4 +22,4 @@ returns-2 c =
     (sym (from-zero (s .args .number) (simp (rd-is (s .fits .number)) at (c .if1 .left))))
 
 pub code-spec : {M : Type 1} → statement M
-code-spec = tie.close (tie.spec add-result returns returns-2)
+code-spec = tie.close (tie.spec (λ c. search needs) returns returns-2)

@@ -11,12 +11,6 @@ use Rattle.number.proofs.Cuts.{in-range-ends, in-range-within}
 use Rattle.number.proofs.cut.Statement.{statement}
 use Rattle.number.proofs.cut.Tie as tie
 
-in-range-requires : tie.Need-in-range-requires
-in-range-requires c κs = search needs
-
-in-range-requires-2 : tie.Need-in-range-requires-2
-in-range-requires-2 c κs = search needs
-
 module _ (a : tie.After-in-range2) where
   abbrev x : ℤ
   x = a .before .before .args .x
@@ -67,5 +61,4 @@ unfolding cut
 returns-2 c = x-is (c .before) ∙ simp (sym (test-is (c .before)) ∙ c .if1 .left)
 
 pub cut-spec : {M : Type 1} → statement M
-cut-spec =
-    tie.close (tie.spec in-range-requires in-range-requires-2 cut-down-requires returns returns-2)
+cut-spec = tie.close (tie.spec (λ c κs. search needs) (λ c κs. search needs) cut-down-requires returns returns-2)

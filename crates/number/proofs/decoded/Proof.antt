@@ -20,12 +20,6 @@ number-is s = toZ-pos w32 (s .args .m) (omega (arith, s .pre))
 negated : (s : tie.Start) → pos 0 -ℤ toZ w32 (s .args .m) ≡ negℤ (pos (s .args .m))
 negated s = ap (λ (z : ℤ). pos 0 -ℤ z) (number-is s) ∙ minus-is (pos (s .args .m))
 
-cast-number : tie.Need-cast-number
-cast-number c = search needs
-
-cast-number-2 : tie.Need-cast-number-2
-cast-number-2 c = search needs
-
 sub-number : tie.Need-sub-number
 sub-number c =
     let s = c .before .before in
@@ -50,6 +44,4 @@ unfolding decode
 returns-3 c = simp (lt-leb _ _ (c .before .if1 .left), c .if2 .left)
 
 pub decoded-spec : {M : Type 1} → statement M
-decoded-spec =
-    tie.close
-    (tie.spec cast-number cast-number-2 sub-number sub-decimals returns returns-2 returns-3)
+decoded-spec = tie.close (tie.spec (λ c. search needs) (λ c. search needs) sub-number sub-decimals returns returns-2 returns-3)

@@ -5,9 +5,6 @@ use Rattle.number.proofs.Signed.{rd-natAbs}
 use Rattle.number.proofs.fits.Statement.{statement}
 use Rattle.number.proofs.fits.Tie as tie
 
-magnitude-requires : tie.Need-magnitude-requires
-magnitude-requires c κs = search needs
-
 returns : tie.Need-returns
 unfolding fits
 returns c =
@@ -15,4 +12,4 @@ returns c =
     simp (c .before .magnitude .ensures, rd-natAbs {x = t .before .args .x .number} (record { sfits = t .struct-told .given .0 .1 }))
 
 pub fits-spec : {M : Type 1} → statement M
-fits-spec = tie.close (tie.spec magnitude-requires returns)
+fits-spec = tie.close (tie.spec (λ c κs. search needs) returns)

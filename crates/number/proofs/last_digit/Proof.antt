@@ -4,15 +4,9 @@ use Rattle.number.specs.Data.{digit}
 use Rattle.number.proofs.last_digit.Statement.{statement}
 use Rattle.number.proofs.last_digit.Tie as tie
 
-cast-result : tie.Need-cast-result
-cast-result c = search needs
-
-add-result : tie.Need-add-result
-add-result c = search needs
-
 returns : tie.Need-returns
 unfolding digit
 returns c = search needs
 
 pub last-digit-spec : {M : Type 1} → statement M
-last-digit-spec = tie.close (tie.spec cast-result add-result returns)
+last-digit-spec = tie.close (tie.spec (λ c. search needs) (λ c. search needs) returns)

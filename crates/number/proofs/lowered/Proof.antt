@@ -9,12 +9,6 @@ use borrow.Author.Needs.{needs}
 use Rattle.number.proofs.lowered.Statement.{statement}
 use Rattle.number.proofs.lowered.Tie as tie
 
-in-range-requires : tie.Need-in-range-requires
-in-range-requires c κs = search needs
-
-in-range-requires-2 : tie.Need-in-range-requires-2
-in-range-requires-2 c κs = search needs
-
 was : (c : tie.After-in-range2) → (isSmall (c .before .before .args .x) && isSmall (c .before .before .args .step)) ≡ (c .before .in-range .result && c .in-range2 .result)
 was c = cc (rd-is (c .before .before .fits .x), rd-is (c .before .before .fits .step))
 
@@ -33,5 +27,4 @@ returns-2 c =
     let f = c .before .before .before .fits in step-left _-ℤ_ natAbs-less (f .x) (f .step) (was (c .before) ∙ c .if1 .left)
 
 pub lowered-spec : {M : Type 1} → statement M
-lowered-spec =
-    tie.close (tie.spec in-range-requires in-range-requires-2 sub-result returns returns-2)
+lowered-spec = tie.close (tie.spec (λ c κs. search needs) (λ c κs. search needs) sub-result returns returns-2)

@@ -11,36 +11,6 @@ use Rattle.number.specs.Data.{readData, readFrom, readNext, start}
 use Rattle.number.proofs.read_data.Statement.{statement}
 use Rattle.number.proofs.read_data.Tie as tie
 
-array-read-read-next : tie.Need-array-read-read-next
-array-read-read-next c = search needs
-
-read-next-requires : tie.Need-read-next-requires
-read-next-requires c κs = search needs
-
-array-read-read-next-2 : tie.Need-array-read-read-next-2
-array-read-read-next-2 c = search needs
-
-read-next-requires-2 : tie.Need-read-next-requires-2
-read-next-requires-2 c κs = search needs
-
-array-read-read-next-3 : tie.Need-array-read-read-next-3
-array-read-read-next-3 c = search needs
-
-read-next-requires-3 : tie.Need-read-next-requires-3
-read-next-requires-3 c κs = search needs
-
-array-read-read-next-4 : tie.Need-array-read-read-next-4
-array-read-read-next-4 c = search needs
-
-read-next-requires-4 : tie.Need-read-next-requires-4
-read-next-requires-4 c κs = search needs
-
-array-read-read-next-5 : tie.Need-array-read-read-next-5
-array-read-read-next-5 c = search needs
-
-read-next-requires-5 : tie.Need-read-next-requires-5
-read-next-requires-5 c κs = search needs
-
 -- five steps read a list of five
 five : (s : List ℕ) → length s ≡ 5
     → readNext (readNext (readNext (readNext (readNext start (getD s 0 0)) (getD s 1 0)) (getD s 2 0)) (getD s 3 0)) (getD s 4 0) ≡ readData s
@@ -59,17 +29,6 @@ returns c =
     cc (five (s .args .t1) (good-length (eInt w8) 5 (s .args .t1) _ (s .good .0)))
 
 pub read-data-spec : {M : Type 1} → statement M
-read-data-spec =
-    tie.close
-    (tie.spec
-    array-read-read-next
-    read-next-requires
-    array-read-read-next-2
-    read-next-requires-2
-    array-read-read-next-3
-    read-next-requires-3
-    array-read-read-next-4
-    read-next-requires-4
-    array-read-read-next-5
-    read-next-requires-5
-    returns)
+read-data-spec = tie.close (tie.spec
+    (λ c. search needs) (λ c κs. search needs) (λ c. search needs) (λ c κs. search needs) (λ c. search needs) (λ c κs. search needs)
+    (λ c. search needs) (λ c κs. search needs) (λ c. search needs) (λ c κs. search needs) returns)

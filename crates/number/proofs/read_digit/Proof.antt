@@ -12,9 +12,6 @@ use Rattle.number.proofs.Digits.{digit-ends}
 use Rattle.number.proofs.read_digit.Statement.{statement}
 use Rattle.number.proofs.read_digit.Tie as tie
 
-is-digit-requires : tie.Need-is-digit-requires
-is-digit-requires c κs = search needs
-
 -- the tests that were passed, as those of the definition
 module _ (a : tie.Then1) where
   abbrev char : ℕ
@@ -38,14 +35,8 @@ sub-d c = digit-ends (char c) (is-digit c) .0
 mul-longer : tie.Need-mul-longer
 mul-longer c = record { fits = omega (arith, value-small (c .before)) }
 
-cast-longer : tie.Need-cast-longer
-cast-longer c = search needs
-
 add-longer : tie.Need-add-longer
 add-longer c = record { fits = omega (arith, value-small (c .before), digit-ends (char (c .before)) (is-digit (c .before)) .1) }
-
-add-more : tie.Need-add-more
-add-more c = search needs
 
 decoded-requires : tie.Need-decoded-requires
 decoded-requires c κs = value-small (c .before)
@@ -63,16 +54,5 @@ unfolding readNext
 returns-3 c = simp (simp (c .before .is-digit .ensures) at (c .if1 .left))
 
 pub read-digit-spec : {M : Type 1} → statement M
-read-digit-spec =
-    tie.close
-    (tie.spec
-    is-digit-requires
-    sub-d
-    mul-longer
-    cast-longer
-    add-longer
-    add-more
-    decoded-requires
-    returns
-    returns-2
-    returns-3)
+read-digit-spec = tie.close (tie.spec
+    (λ c κs. search needs) sub-d mul-longer (λ c. search needs) add-longer (λ c. search needs) decoded-requires returns returns-2 returns-3)

@@ -6,18 +6,6 @@ use Rattle.number.specs.Data.{readNext}
 use Rattle.number.proofs.read_next.Statement.{statement}
 use Rattle.number.proofs.read_next.Tie as tie
 
-enum-known-read : tie.Need-enum-known-read
-enum-known-read c = search needs
-
-read-digit-requires : tie.Need-read-digit-requires
-read-digit-requires c κs = search needs
-
-enum-told : tie.Need-enum-told
-enum-told c = search needs
-
-enum-told-2 : tie.Need-enum-told-2
-enum-told-2 c = search needs
-
 returns : tie.Need-returns
 returns c =
     let k = c .before .before in
@@ -32,6 +20,5 @@ unfolding readNext
 returns-3 c = sym (rw (c .enum-told2 .given .1))
 
 pub read-next-spec : {M : Type 1} → statement M
-read-next-spec =
-    tie.close
-    (tie.spec enum-known-read read-digit-requires enum-told enum-told-2 returns returns-2 returns-3)
+read-next-spec = tie.close (tie.spec
+    (λ c. search needs) (λ c κs. search needs) (λ c. search needs) (λ c. search needs) returns returns-2 returns-3)

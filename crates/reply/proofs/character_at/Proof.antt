@@ -5,9 +5,6 @@ use borrow.Author.Needs.{needs}
 use Rattle.reply.proofs.character_at.Statement.{statement}
 use Rattle.reply.proofs.character_at.Tie as tie
 
-shared-slice-read-result : tie.Need-shared-slice-read-result
-shared-slice-read-result c = search needs
-
 returns : tie.Need-returns
 returns c = sym (character-in (c .before .before .args .bytes .now) (c .before .before .args .k))
 
@@ -15,4 +12,4 @@ returns-2 : tie.Need-returns-2
 returns-2 c = sym (character-out (c .before .args .bytes .now) (c .before .args .k) (c .if1 .left))
 
 pub character-at-spec : {M : Type 1} → statement M
-character-at-spec = tie.close (tie.spec shared-slice-read-result returns returns-2)
+character-at-spec = tie.close (tie.spec (λ c. search needs) returns returns-2)

@@ -9,12 +9,6 @@ use borrow.Author.Needs.{needs}
 use Rattle.reply.proofs.content_len.Statement.{statement}
 use Rattle.reply.proofs.content_len.Tie as tie
 
-enum-told : tie.Need-enum-told
-enum-told c = search needs
-
-enum-told-2 : tie.Need-enum-told-2
-enum-told-2 c = search needs
-
 returns : tie.Need-returns
 returns c = sym (ap (λ (x : Content). length (spellContent x)) (c .enum-told .given .1) ∙ ap length no-data)
 
@@ -22,4 +16,4 @@ returns-2 : tie.Need-returns-2
 returns-2 c = sym (ap (λ (x : Content). length (spellContent x)) (c .enum-told2 .given .1) ∙ ap length (number-data _) ∙ data-length _)
 
 pub content-len-spec : {M : Type 1} → statement M
-content-len-spec = tie.close (tie.spec enum-told enum-told-2 returns returns-2)
+content-len-spec = tie.close (tie.spec (λ c. search needs) (λ c. search needs) returns returns-2)

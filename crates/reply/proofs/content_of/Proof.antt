@@ -4,15 +4,6 @@ use borrow.Author.Needs.{needs}
 use Rattle.reply.proofs.content_of.Statement.{statement}
 use Rattle.reply.proofs.content_of.Tie as tie
 
-enum-told : tie.Need-enum-told
-enum-told c = search needs
-
-enum-known-read : tie.Need-enum-known-read
-enum-known-read c = search needs
-
-enum-told-2 : tie.Need-enum-told-2
-enum-told-2 c = search needs
-
 returns : tie.Need-returns
 unfolding contentOf
 returns c = rw (c .enum-told .given .1)
@@ -26,5 +17,4 @@ unfolding contentOf
 returns-3 c = rw (c .enum-told2 .given .1)
 
 pub content-of-spec : {M : Type 1} → statement M
-content-of-spec =
-    tie.close (tie.spec enum-told enum-known-read enum-told-2 returns returns-2 returns-3)
+content-of-spec = tie.close (tie.spec (λ c. search needs) (λ c. search needs) (λ c. search needs) returns returns-2 returns-3)

@@ -56,17 +56,5 @@ returns-3 c =
     lists.compare-ends eqb 0 (a .a .now) (a .b .now) (l .loop .inv) (c .loop-test .left)
 
 pub equal-spec : {M : Type 1} → statement M
-equal-spec =
-    tie.close
-    (tie.spec
-    Inv-loop
-    μ-loop
-    returns
-    loop-holds
-    shared-slice-read-if2
-    shared-slice-read-if2-2
-    returns-2
-    add-i
-    loop-less
-    loop-again
-    returns-3)
+equal-spec = tie.close (tie.spec
+    Inv-loop μ-loop returns loop-holds shared-slice-read-if2 shared-slice-read-if2-2 returns-2 add-i loop-less loop-again returns-3)

@@ -6,24 +6,6 @@ use borrow.Author.Needs.{needs}
 use Rattle.reply.proofs.fits_content.Statement.{statement}
 use Rattle.reply.proofs.fits_content.Tie as tie
 
-enum-known-content : tie.Need-enum-known-content
-enum-known-content c = search needs
-
-fits-requires : tie.Need-fits-requires
-fits-requires c κs = search needs
-
-enum-told : tie.Need-enum-told
-enum-told c = search needs
-
-enum-told-2 : tie.Need-enum-told-2
-enum-told-2 c = search needs
-
-enum-told-3 : tie.Need-enum-told-3
-enum-told-3 c = search needs
-
-enum-told-4 : tie.Need-enum-told-4
-enum-told-4 c = search needs
-
 returns : tie.Need-returns
 returns c =
     let b = c .before .before .content .given in
@@ -43,16 +25,6 @@ unfolding fitsContent
 returns-4 c = rw (c .before .before .enum-told .given .1) (rw (c .enum-told4 .given .1))
 
 pub fits-content-spec : {M : Type 1} → statement M
-fits-content-spec =
-    tie.close
-    (tie.spec
-    enum-known-content
-    fits-requires
-    enum-told
-    enum-told-2
-    enum-told-3
-    enum-told-4
-    returns
-    returns-2
-    returns-3
-    returns-4)
+fits-content-spec = tie.close (tie.spec
+    (λ c. search needs) (λ c κs. search needs) (λ c. search needs) (λ c. search needs) (λ c. search needs) (λ c. search needs) returns
+    returns-2 returns-3 returns-4)

@@ -9,42 +9,6 @@ use borrow.Author.Needs.{needs}
 use Rattle.reply.proofs.guess.Statement.{statement}
 use Rattle.reply.proofs.guess.Tie as tie
 
-character-at-requires : tie.Need-character-at-requires
-character-at-requires c κs = search needs
-
-digit-of-requires : tie.Need-digit-of-requires
-digit-of-requires c κs = search needs
-
-character-at-requires-2 : tie.Need-character-at-requires-2
-character-at-requires-2 c κs = search needs
-
-is-digit-requires : tie.Need-is-digit-requires
-is-digit-requires c κs = search needs
-
-digit-of-requires-2 : tie.Need-digit-of-requires-2
-digit-of-requires-2 c κs = search needs
-
-cast-address : tie.Need-cast-address
-cast-address c = search needs
-
-mul-address : tie.Need-mul-address
-mul-address c = search needs
-
-cast-address-2 : tie.Need-cast-address-2
-cast-address-2 c = search needs
-
-add-address : tie.Need-add-address
-add-address c = search needs
-
-cast-guess-behind : tie.Need-cast-guess-behind
-cast-guess-behind c = search needs
-
-guess-behind-requires : tie.Need-guess-behind-requires
-guess-behind-requires c κs = search needs
-
-guess-behind-requires-2 : tie.Need-guess-behind-requires-2
-guess-behind-requires-2 c κs = search needs
-
 returns : tie.Need-returns
 returns c =
     let t = c .before .before in
@@ -71,20 +35,7 @@ returns-2 c =
     ∙ sym (guess-one cs (ap isDigit (sym second) ∙ sym (s .is-digit .ensures) ∙ t .if1 .left))
 
 pub guess-spec : {M : Type 1} → statement M
-guess-spec =
-    tie.close
-    (tie.spec
-    character-at-requires
-    digit-of-requires
-    character-at-requires-2
-    is-digit-requires
-    digit-of-requires-2
-    cast-address
-    mul-address
-    cast-address-2
-    add-address
-    cast-guess-behind
-    guess-behind-requires
-    guess-behind-requires-2
-    returns
+guess-spec = tie.close (tie.spec
+    (λ c κs. search needs) (λ c κs. search needs) (λ c κs. search needs) (λ c κs. search needs) (λ c κs. search needs) (λ c. search needs)
+    (λ c. search needs) (λ c. search needs) (λ c. search needs) (λ c. search needs) (λ c κs. search needs) (λ c κs. search needs) returns
     returns-2)

@@ -17,21 +17,6 @@ identifier c =
     let cs = charactersOf (a .bytes .now) in
     c .character-at2 .ensures ∙ ap (λ (j : ℕ). getD cs j 0) (sym (add-zero (a .k))) ∙ character-behind cs (a .k) 0
 
-character-at-requires : tie.Need-character-at-requires
-character-at-requires c κs = search needs
-
-character-at-requires-2 : tie.Need-character-at-requires-2
-character-at-requires-2 c κs = search needs
-
-add-character-at : tie.Need-add-character-at
-add-character-at c = search needs
-
-character-at-requires-3 : tie.Need-character-at-requires-3
-character-at-requires-3 c κs = search needs
-
-guess-mark-requires : tie.Need-guess-mark-requires
-guess-mark-requires c κs = search needs
-
 returns : tie.Need-returns
 returns c =
     let s = c .before .before .before .before in
@@ -40,51 +25,6 @@ returns c =
     behind-status (s .character-at .result) (a .address) _ _ (drop (a .k) cs) (identifier (c .before .before .before)) (c .before .before .if1 .taken)
     (c .guess-mark .ensures ∙ ap guessMark (c .before .character-at3 .ensures ∙ character-behind cs (a .k) 1))
     ∙ ap (λ (l : ℕ). guessBehind l (a .address) (drop (a .k) cs)) (s .character-at .ensures)
-
-add-character-at-2 : tie.Need-add-character-at-2
-add-character-at-2 c = search needs
-
-character-at-requires-4 : tie.Need-character-at-requires-4
-character-at-requires-4 c κs = search needs
-
-add-character-at-3 : tie.Need-add-character-at-3
-add-character-at-3 c = search needs
-
-character-at-requires-5 : tie.Need-character-at-requires-5
-character-at-requires-5 c κs = search needs
-
-add-character-at-4 : tie.Need-add-character-at-4
-add-character-at-4 c = search needs
-
-character-at-requires-6 : tie.Need-character-at-requires-6
-character-at-requires-6 c κs = search needs
-
-add-character-at-5 : tie.Need-add-character-at-5
-add-character-at-5 c = search needs
-
-character-at-requires-7 : tie.Need-character-at-requires-7
-character-at-requires-7 c κs = search needs
-
-add-character-at-6 : tie.Need-add-character-at-6
-add-character-at-6 c = search needs
-
-character-at-requires-8 : tie.Need-character-at-requires-8
-character-at-requires-8 c κs = search needs
-
-add-character-at-7 : tie.Need-add-character-at-7
-add-character-at-7 c = search needs
-
-character-at-requires-9 : tie.Need-character-at-requires-9
-character-at-requires-9 c κs = search needs
-
-guess-mark-requires-2 : tie.Need-guess-mark-requires-2
-guess-mark-requires-2 c κs = search needs
-
-read-data-requires : tie.Need-read-data-requires
-read-data-requires c κs = search needs
-
-content-of-requires : tie.Need-content-of-requires
-content-of-requires c κs = search needs
 
 returns-2 : tie.Need-returns-2
 unfolding five
@@ -105,28 +45,8 @@ returns-2 c =
     ∙ ap (λ (l : ℕ). guessBehind l (a .address) (drop k cs)) (s .character-at .ensures)
 
 pub guess-behind-spec : {M : Type 1} → statement M
-guess-behind-spec =
-    tie.close
-    (tie.spec
-    character-at-requires
-    character-at-requires-2
-    add-character-at
-    character-at-requires-3
-    guess-mark-requires
-    returns
-    add-character-at-2
-    character-at-requires-4
-    add-character-at-3
-    character-at-requires-5
-    add-character-at-4
-    character-at-requires-6
-    add-character-at-5
-    character-at-requires-7
-    add-character-at-6
-    character-at-requires-8
-    add-character-at-7
-    character-at-requires-9
-    guess-mark-requires-2
-    read-data-requires
-    content-of-requires
-    returns-2)
+guess-behind-spec = tie.close (tie.spec
+    (λ c κs. search needs) (λ c κs. search needs) (λ c. search needs) (λ c κs. search needs) (λ c κs. search needs) returns
+    (λ c. search needs) (λ c κs. search needs) (λ c. search needs) (λ c κs. search needs) (λ c. search needs) (λ c κs. search needs)
+    (λ c. search needs) (λ c κs. search needs) (λ c. search needs) (λ c κs. search needs) (λ c. search needs) (λ c κs. search needs)
+    (λ c κs. search needs) (λ c κs. search needs) (λ c κs. search needs) returns-2)

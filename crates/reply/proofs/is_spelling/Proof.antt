@@ -15,15 +15,6 @@ use borrow.Author.Needs.{needs}
 use Rattle.reply.proofs.is_spelling.Statement.{statement}
 use Rattle.reply.proofs.is_spelling.Tie as tie
 
-slice-aggregate-place : tie.Need-slice-aggregate-place
-slice-aggregate-place c = search needs
-
-place-requires : tie.Need-place-requires
-place-requires c κs = search needs
-
-enum-known-n : tie.Need-enum-known-n
-enum-known-n c = search needs
-
 -- what the array holds
 holds : (p : tie.After-place) → Spelt (p .before .before .before .args .answer) (p .place .result) (p .place .last .1 .0)
 holds p = spelt (p .before .before .before .args .answer) _ (p .place .result) _ refl (p .place .ensures)
@@ -49,12 +40,6 @@ array-share-prefix-spelled c = fit c
 slice-aggregate-equal : tie.Need-slice-aggregate-equal
 slice-aggregate-equal c = sym (length-take-le _ _ (fit (c .before)))
 
-equal-requires : tie.Need-equal-requires
-equal-requires c κs = search needs
-
-enum-told : tie.Need-enum-told
-enum-told c = search needs
-
 returns : tie.Need-returns
 returns c =
     let k = c .before .before in
@@ -67,15 +52,6 @@ returns-2 c =
     absurd (spelt-always _ _ _ _ (holds p) (c .enum-told .given .1))
 
 pub is-spelling-spec : {M : Type 1} → statement M
-is-spelling-spec =
-    tie.close
-    (tie.spec
-    slice-aggregate-place
-    place-requires
-    enum-known-n
-    array-share-prefix-spelled
-    slice-aggregate-equal
-    equal-requires
-    enum-told
-    returns
-    returns-2)
+is-spelling-spec = tie.close (tie.spec
+    (λ c. search needs) (λ c κs. search needs) (λ c. search needs) array-share-prefix-spelled slice-aggregate-equal (λ c κs. search needs)
+    (λ c. search needs) returns returns-2)

@@ -12,9 +12,6 @@ use borrow.Author.Needs.{needs}
 use Rattle.reply.proofs.place.Statement.{statement}
 use Rattle.reply.proofs.place.Tie as tie
 
-spelled-len-requires : tie.Need-spelled-len-requires
-spelled-len-requires c κs = search needs
-
 -- the bytes are as many as the characters
 count : (s : tie.After-spelled-len) → length (travelling (spellAnswer (s .before .before .args .answer))) ≡ s .spelled-len .result
 count s = travelling-length (spellAnswer (s .before .before .args .answer)) ∙ sym (s .spelled-len .ensures)
@@ -24,9 +21,6 @@ returns c =
     let a = c .before .before .before .args in
     let n = count (c .before) in
     sym (unplaced-call (travelling (spellAnswer (a .answer))) (a .at) (a .out .now) (fits-not (travelling (spellAnswer (a .answer))) (a .at) (a .out .now) (omega arith)))
-
-sub-if2 : tie.Need-sub-if2
-sub-if2 c = search needs
 
 returns-2 : tie.Need-returns-2
 returns-2 c =
@@ -45,18 +39,12 @@ place-content-requires c κs =
     let l = f .before .before .before .before in
     omega (arith, l .spelled-len .ensures, answer-sum (l .before .before .args .answer), f .place-front .ensures .0, f .place-front .kept)
 
-mark-of-requires : tie.Need-mark-of-requires
-mark-of-requires c κs = search needs
-
 place-end-requires : tie.Need-place-end-requires
 place-end-requires c κs =
     let p = c .before .before .before .before in
     let f = p .before .before .before .before in
     let l = f .before .before .before .before in
     omega (arith, l .spelled-len .ensures, answer-sum (l .before .before .args .answer), f .place-front .ensures .0, f .place-front .kept, p .place-content .ensures .0, p .place-content .kept)
-
-same-length : tie.Need-same-length
-same-length c = search needs
 
 returns-3 : tie.Need-returns-3
 returns-3 c =
@@ -75,16 +63,6 @@ returns-3 c =
     ∙ sym (placed-call xs (a .at) (a .out .now) (fits-at xs (a .at) (a .out .now) (omega arith)))
 
 pub place-spec : {M : Type 1} → statement M
-place-spec =
-    tie.close
-    (tie.spec
-    spelled-len-requires
-    returns
-    sub-if2
-    returns-2
-    place-front-requires
-    place-content-requires
-    mark-of-requires
-    place-end-requires
-    same-length
-    returns-3)
+place-spec = tie.close (tie.spec
+    (λ c κs. search needs) returns (λ c. search needs) returns-2 place-front-requires place-content-requires (λ c κs. search needs)
+    place-end-requires (λ c. search needs) returns-3)

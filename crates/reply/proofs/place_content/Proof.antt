@@ -14,12 +14,6 @@ use borrow.Author.Needs.{needs}
 use Rattle.reply.proofs.place_content.Statement.{statement}
 use Rattle.reply.proofs.place_content.Tie as tie
 
-enum-told : tie.Need-enum-told
-enum-told c = search needs
-
-enum-known-content : tie.Need-enum-known-content
-enum-known-content c = search needs
-
 place-number-requires : tie.Need-place-number-requires
 place-number-requires c κs =
     let k = c .before .before in
@@ -33,9 +27,6 @@ returns c =
     let n = ap spellContent (c .enum-told .given .1) ∙ no-data in
     (omega (arith, ap length n), sym (ap (λ (l : List ℕ). placed (travelling l) (a .at) (a .out .now)) n ∙ placed-nothing (a .at) (a .out .now)))
 
-same-length : tie.Need-same-length
-same-length c = search needs
-
 returns-2 : tie.Need-returns-2
 returns-2 c =
     let p = c .before .before in
@@ -45,6 +36,5 @@ returns-2 c =
     (p .place-number .ensures .0 ∙ omega (arith, ap length e, data-length (k .content .given .0 .0)), p .place-number .ensures .1 ∙ ap (λ (l : List ℕ). placed (travelling l) (a .at) (a .out .now)) (sym e))
 
 pub place-content-spec : {M : Type 1} → statement M
-place-content-spec =
-    tie.close
-    (tie.spec enum-told enum-known-content place-number-requires returns same-length returns-2)
+place-content-spec = tie.close (tie.spec
+    (λ c. search needs) (λ c. search needs) place-number-requires returns (λ c. search needs) returns-2)

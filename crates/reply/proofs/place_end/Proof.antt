@@ -10,21 +10,6 @@ use borrow.Author.Needs.{needs}
 use Rattle.reply.proofs.place_end.Statement.{statement}
 use Rattle.reply.proofs.place_end.Tie as tie
 
-with-parity-requires : tie.Need-with-parity-requires
-with-parity-requires c κs = search needs
-
-with-parity-requires-2 : tie.Need-with-parity-requires-2
-with-parity-requires-2 c κs = search needs
-
-slice-aggregate-place : tie.Need-slice-aggregate-place
-slice-aggregate-place c = search needs
-
-place-requires : tie.Need-place-requires
-place-requires c κs = search needs
-
-same-length : tie.Need-same-length
-same-length c = search needs
-
 returns : tie.Need-returns
 unfolding travelling spellEnd
 returns c =
@@ -35,12 +20,5 @@ returns c =
     ∙ ap₂ (λ (m e : ℕ). placed (m ∷ e ∷ []) (a .at) (a .out .now)) (w .before .with-parity .ensures) (w .with-parity2 .ensures)
 
 pub place-end-spec : {M : Type 1} → statement M
-place-end-spec =
-    tie.close
-    (tie.spec
-    with-parity-requires
-    with-parity-requires-2
-    slice-aggregate-place
-    place-requires
-    same-length
-    returns)
+place-end-spec = tie.close (tie.spec
+    (λ c κs. search needs) (λ c κs. search needs) (λ c. search needs) (λ c κs. search needs) (λ c. search needs) returns)

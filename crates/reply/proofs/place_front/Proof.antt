@@ -25,30 +25,6 @@ module _ (s : tie.Start) (xs : List ℕ) where
       let room : s .args .at + length xs ≤ length (s .args .out .now) = subst (λ (k : ℕ). s .args .at + k ≤ length (s .args .out .now)) (sym n) (s .pre) in
       (ap (λ (k : ℕ). s .args .at + k) n, placed-is xs (s .args .at) (s .args .out .now) room p ∙ ap (λ (l : List ℕ). placed l (s .args .at) (s .args .out .now)) e)
 
-with-parity-requires : tie.Need-with-parity-requires
-with-parity-requires c κs = search needs
-
-with-parity-requires-2 : tie.Need-with-parity-requires-2
-with-parity-requires-2 c κs = search needs
-
-add-with-parity : tie.Need-add-with-parity
-add-with-parity c = search needs
-
-with-parity-requires-3 : tie.Need-with-parity-requires-3
-with-parity-requires-3 c κs = search needs
-
-slice-aggregate-place : tie.Need-slice-aggregate-place
-slice-aggregate-place c = search needs
-
-place-requires : tie.Need-place-requires
-place-requires c κs = search needs
-
-add-result : tie.Need-add-result
-add-result c = search needs
-
-same-length : tie.Need-same-length
-same-length c = search needs
-
 returns : tie.Need-returns
 unfolding travelling
 returns c =
@@ -58,30 +34,6 @@ returns c =
     let s = i .before .before .before in
     let a = s .args in
     placed-front s _ (rw (i .before .with-parity .ensures, i .with-parity2 .ensures, w .with-parity3 .ensures) (sym (ap travelling (front-one (a .letter) (a .address) (a .identifier) (w .before .if1 .taken))))) (p .place .ensures)
-
-add-with-parity-2 : tie.Need-add-with-parity-2
-add-with-parity-2 c = search needs
-
-with-parity-requires-4 : tie.Need-with-parity-requires-4
-with-parity-requires-4 c κs = search needs
-
-add-with-parity-3 : tie.Need-add-with-parity-3
-add-with-parity-3 c = search needs
-
-with-parity-requires-5 : tie.Need-with-parity-requires-5
-with-parity-requires-5 c κs = search needs
-
-slice-aggregate-place-2 : tie.Need-slice-aggregate-place-2
-slice-aggregate-place-2 c = search needs
-
-place-requires-2 : tie.Need-place-requires-2
-place-requires-2 c κs = search needs
-
-add-result-2 : tie.Need-add-result-2
-add-result-2 c = search needs
-
-same-length-2 : tie.Need-same-length-2
-same-length-2 c = search needs
 
 returns-2 : tie.Need-returns-2
 unfolding travelling
@@ -95,24 +47,7 @@ returns-2 c =
     placed-front s _ (rw (i .before .with-parity .ensures, i .with-parity2 .ensures, t .with-parity4 .ensures, u .with-parity5 .ensures) (sym (ap travelling (front-two (a .letter) (a .address) (a .identifier) (t .before .if1 .left))))) (p .place2 .ensures)
 
 pub place-front-spec : {M : Type 1} → statement M
-place-front-spec =
-    tie.close
-    (tie.spec
-    with-parity-requires
-    with-parity-requires-2
-    add-with-parity
-    with-parity-requires-3
-    slice-aggregate-place
-    place-requires
-    add-result
-    same-length
-    returns
-    add-with-parity-2
-    with-parity-requires-4
-    add-with-parity-3
-    with-parity-requires-5
-    slice-aggregate-place-2
-    place-requires-2
-    add-result-2
-    same-length-2
-    returns-2)
+place-front-spec = tie.close (tie.spec
+    (λ c κs. search needs) (λ c κs. search needs) (λ c. search needs) (λ c κs. search needs) (λ c. search needs) (λ c κs. search needs)
+    (λ c. search needs) (λ c. search needs) returns (λ c. search needs) (λ c κs. search needs) (λ c. search needs) (λ c κs. search needs)
+    (λ c. search needs) (λ c κs. search needs) (λ c. search needs) (λ c. search needs) returns-2)

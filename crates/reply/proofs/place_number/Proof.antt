@@ -13,51 +13,6 @@ use borrow.Author.Needs.{needs}
 use Rattle.reply.proofs.place_number.Statement.{statement}
 use Rattle.reply.proofs.place_number.Tie as tie
 
-write-data-requires : tie.Need-write-data-requires
-write-data-requires c κs = search needs
-
-array-read-with-parity : tie.Need-array-read-with-parity
-array-read-with-parity c = search needs
-
-with-parity-requires : tie.Need-with-parity-requires
-with-parity-requires c κs = search needs
-
-array-read-with-parity-2 : tie.Need-array-read-with-parity-2
-array-read-with-parity-2 c = search needs
-
-with-parity-requires-2 : tie.Need-with-parity-requires-2
-with-parity-requires-2 c κs = search needs
-
-array-read-with-parity-3 : tie.Need-array-read-with-parity-3
-array-read-with-parity-3 c = search needs
-
-with-parity-requires-3 : tie.Need-with-parity-requires-3
-with-parity-requires-3 c κs = search needs
-
-array-read-with-parity-4 : tie.Need-array-read-with-parity-4
-array-read-with-parity-4 c = search needs
-
-with-parity-requires-4 : tie.Need-with-parity-requires-4
-with-parity-requires-4 c κs = search needs
-
-array-read-with-parity-5 : tie.Need-array-read-with-parity-5
-array-read-with-parity-5 c = search needs
-
-with-parity-requires-5 : tie.Need-with-parity-requires-5
-with-parity-requires-5 c κs = search needs
-
-slice-aggregate-place : tie.Need-slice-aggregate-place
-slice-aggregate-place c = search needs
-
-place-requires : tie.Need-place-requires
-place-requires c κs = search needs
-
-add-result : tie.Need-add-result
-add-result c = search needs
-
-same-length : tie.Need-same-length
-same-length c = search needs
-
 returns : tie.Need-returns
 unfolding travelling
 returns c =
@@ -78,22 +33,7 @@ returns c =
     )
 
 pub place-number-spec : {M : Type 1} → statement M
-place-number-spec =
-    tie.close
-    (tie.spec
-    write-data-requires
-    array-read-with-parity
-    with-parity-requires
-    array-read-with-parity-2
-    with-parity-requires-2
-    array-read-with-parity-3
-    with-parity-requires-3
-    array-read-with-parity-4
-    with-parity-requires-4
-    array-read-with-parity-5
-    with-parity-requires-5
-    slice-aggregate-place
-    place-requires
-    add-result
-    same-length
-    returns)
+place-number-spec = tie.close (tie.spec
+    (λ c κs. search needs) (λ c. search needs) (λ c κs. search needs) (λ c. search needs) (λ c κs. search needs) (λ c. search needs)
+    (λ c κs. search needs) (λ c. search needs) (λ c κs. search needs) (λ c. search needs) (λ c κs. search needs) (λ c. search needs)
+    (λ c κs. search needs) (λ c. search needs) (λ c. search needs) returns)

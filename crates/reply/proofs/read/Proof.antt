@@ -13,15 +13,6 @@ use borrow.Author.Needs.{needs}
 use Rattle.reply.proofs.read.Statement.{statement}
 use Rattle.reply.proofs.read.Tie as tie
 
-guess-requires : tie.Need-guess-requires
-guess-requires c κs = search needs
-
-is-answer-requires : tie.Need-is-answer-requires
-is-answer-requires c κs = search needs
-
-is-spelling-requires : tie.Need-is-spelling-requires
-is-spelling-requires c κs = search needs
-
 -- the code's test is the definition's
 was : (c : tie.After-is-spelling) → isReply (c .before .before .before .before .args .bytes .now) ≡ (c .before .is-answer .result && c .is-spelling .result)
 unfolding isReply
@@ -39,5 +30,4 @@ returns-2 : tie.Need-returns-2
 returns-2 c = sym (read-no-reply _ (was (c .before) ∙ c .if1 .left))
 
 pub read-spec : {M : Type 1} → statement M
-read-spec =
-    tie.close (tie.spec guess-requires is-answer-requires is-spelling-requires returns returns-2)
+read-spec = tie.close (tie.spec (λ c κs. search needs) (λ c κs. search needs) (λ c κs. search needs) returns returns-2)

@@ -7,9 +7,6 @@ use borrow.Author.Needs.{needs}
 use Rattle.reply.proofs.spelled_len.Statement.{statement}
 use Rattle.reply.proofs.spelled_len.Tie as tie
 
-content-len-requires : tie.Need-content-len-requires
-content-len-requires c κs = search needs
-
 add-result : tie.Need-add-result
 add-result c = omega (arith, c .before .before .content-len .ensures, content-length (c .before .before .before .args .answer .content))
 
@@ -27,5 +24,4 @@ returns-2 c =
     omega (arith, c .before .before .content-len .ensures, answer-sum a, ap length (front-two (a .letter) (a .address) (a .identifier) (c .if1 .left)))
 
 pub spelled-len-spec : {M : Type 1} → statement M
-spelled-len-spec =
-    tie.close (tie.spec content-len-requires add-result add-result-2 returns returns-2)
+spelled-len-spec = tie.close (tie.spec (λ c κs. search needs) add-result add-result-2 returns returns-2)

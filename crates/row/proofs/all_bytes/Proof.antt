@@ -28,9 +28,6 @@ mul-number c = omega arith
 shared-slice-copy-out-number : tie.Need-shared-slice-copy-out-number Inv-loop μ-loop
 shared-slice-copy-out-number c = omega arith
 
-is-byte-requires : tie.Need-is-byte-requires Inv-loop μ-loop
-is-byte-requires c κs = search needs
-
 was : (c : tie.After-is-byte Inv-loop μ-loop) → isByte (getD (c .before .before .before .before .args .numbers .now) (c .before .before .before .loop .i) (pos 0)) ≡ c .is-byte .result
 was c = ap isByte (sym (rd-ok _ (c .before .number .given))) ∙ sym (c .is-byte .ensures)
 
@@ -56,17 +53,5 @@ returns-2 c =
     test-ends isByte (pos 0) (l .before .args .numbers .now) (l .loop .inv) (c .loop-test .left)
 
 pub all-bytes-spec : {M : Type 1} → statement M
-all-bytes-spec =
-    tie.close
-    (tie.spec
-    Inv-loop
-    μ-loop
-    loop-holds
-    mul-number
-    shared-slice-copy-out-number
-    is-byte-requires
-    returns
-    add-i
-    loop-less
-    loop-again
-    returns-2)
+all-bytes-spec = tie.close (tie.spec
+    Inv-loop μ-loop loop-holds mul-number shared-slice-copy-out-number (λ c κs. search needs) returns add-i loop-less loop-again returns-2)

@@ -9,9 +9,6 @@ use borrow.Author.Needs.{needs}
 use Rattle.row.proofs.byte_of.Statement.{statement}
 use Rattle.row.proofs.byte_of.Tie as tie
 
-is-byte-requires : tie.Need-is-byte-requires
-is-byte-requires c κs = search needs
-
 was : (c : tie.After-is-byte) → isByte (c .before .args .x) ≡ c .is-byte .result
 was c = ap isByte (sym (rd-is (c .before .fits .x))) ∙ sym (c .is-byte .ensures)
 
@@ -31,4 +28,4 @@ unfolding byteOf
 returns-2 c = sym (rw (was (c .before) ∙ c .if1 .left))
 
 pub byte-of-spec : {M : Type 1} → statement M
-byte-of-spec = tie.close (tie.spec is-byte-requires cast-result returns returns-2)
+byte-of-spec = tie.close (tie.spec (λ c κs. search needs) cast-result returns returns-2)

@@ -7,24 +7,6 @@ use borrow.Author.Needs.{needs}
 use Rattle.row.proofs.card_of.Statement.{statement}
 use Rattle.row.proofs.card_of.Tie as tie
 
-setup-of-requires : tie.Need-setup-of-requires
-setup-of-requires c κs = search needs
-
-pending-of-requires : tie.Need-pending-of-requires
-pending-of-requires c κs = search needs
-
-number-at-requires : tie.Need-number-at-requires
-number-at-requires c κs = search needs
-
-number-at-requires-2 : tie.Need-number-at-requires-2
-number-at-requires-2 c κs = search needs
-
-number-at-requires-3 : tie.Need-number-at-requires-3
-number-at-requires-3 c κs = search needs
-
-offer-of-requires : tie.Need-offer-of-requires
-offer-of-requires c κs = search needs
-
 returns : tie.Need-returns
 unfolding cardOf
 returns c =
@@ -43,13 +25,6 @@ returns c =
     simp (p .before .setup-of .ensures, p .pending-of .ensures, offer)
 
 pub card-of-spec : {M : Type 1} → statement M
-card-of-spec =
-    tie.close
-    (tie.spec
-    setup-of-requires
-    pending-of-requires
-    number-at-requires
-    number-at-requires-2
-    number-at-requires-3
-    offer-of-requires
-    returns)
+card-of-spec = tie.close (tie.spec
+    (λ c κs. search needs) (λ c κs. search needs) (λ c κs. search needs) (λ c κs. search needs) (λ c κs. search needs)
+    (λ c κs. search needs) returns)

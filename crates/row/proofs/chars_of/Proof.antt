@@ -30,12 +30,6 @@ loop-holds c = copy-starts (of (c .args .row .now)) _ 0
 add-byte-at : tie.Need-add-byte-at Inv-loop μ-loop
 add-byte-at c = omega arith
 
-byte-at-requires : tie.Need-byte-at-requires Inv-loop μ-loop
-byte-at-requires c κs = search needs
-
-array-write-chars : tie.Need-array-write-chars Inv-loop μ-loop
-array-write-chars c = search needs
-
 add-k : tie.Need-add-k Inv-loop μ-loop
 add-k c = omega arith
 
@@ -58,16 +52,5 @@ returns c =
     copy-ends 0 (of row) _ 0 (l .loop .chars) (l .loop .k) (l .loop .inv) (omega (arith, n)) (omega (arith, c .loop-test .left, n)) ∙ placed-whole (of row) _ (omega (arith, n))
 
 pub chars-of-spec : {M : Type 1} → statement M
-chars-of-spec =
-    tie.close
-    (tie.spec
-    Inv-loop
-    μ-loop
-    loop-holds
-    add-byte-at
-    byte-at-requires
-    array-write-chars
-    add-k
-    loop-less
-    loop-again
-    returns)
+chars-of-spec = tie.close (tie.spec
+    Inv-loop μ-loop loop-holds add-byte-at (λ c κs. search needs) (λ c. search needs) add-k loop-less loop-again returns)

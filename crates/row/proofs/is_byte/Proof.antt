@@ -8,12 +8,9 @@ use borrow.Author.Needs.{needs}
 use Rattle.row.proofs.is_byte.Statement.{statement}
 use Rattle.row.proofs.is_byte.Tie as tie
 
-in-range-requires : tie.Need-in-range-requires
-in-range-requires c κs = search needs
-
 returns : tie.Need-returns
 unfolding isByte
 returns c = c .in-range .ensures ∙ ap (λ (z : ℤ). inRange (pos 0) z (pos 255)) (rd-is (c .before .fits .x))
 
 pub is-byte-spec : {M : Type 1} → statement M
-is-byte-spec = tie.close (tie.spec in-range-requires returns)
+is-byte-spec = tie.close (tie.spec (λ c κs. search needs) returns)

@@ -11,15 +11,6 @@ use borrow.Author.Needs.{needs}
 use Rattle.row.proofs.offer_of.Statement.{statement}
 use Rattle.row.proofs.offer_of.Tie as tie
 
-in-range-requires : tie.Need-in-range-requires
-in-range-requires c κs = search needs
-
-in-range-requires-2 : tie.Need-in-range-requires-2
-in-range-requires-2 c κs = search needs
-
-in-range-requires-3 : tie.Need-in-range-requires-3
-in-range-requires-3 c κs = search needs
-
 -- the first test
 none : (c : tie.After-in-range3) → let s = c .before .before .before in isNone (s .args .mark) (s .args .identifier) (s .args .value) ≡ (c .before .before .in-range .result && c .before .in-range2 .result && c .in-range3 .result)
 none c =
@@ -31,20 +22,11 @@ returns c =
     let a = c .before .before .before .before .args in
     sym (offer-none (a .mark) (a .identifier) (a .value) (none (c .before) ∙ c .if1 .taken))
 
-in-range-requires-4 : tie.Need-in-range-requires-4
-in-range-requires-4 c κs = search needs
-
-is-byte-requires : tie.Need-is-byte-requires
-is-byte-requires c κs = search needs
-
 -- the second
 marked : (c : tie.After-is-byte) → let s = c .before .before .before .before .before .before in isMarked (s .args .mark) (s .args .identifier) (s .args .value) ≡ (c .before .in-range4 .result && c .is-byte .result)
 marked c =
     let s = c .before .before .before .before .before .before in
     sym (ap₂ _&&_ (c .before .in-range4 .ensures ∙ ap (λ (z : ℤ). inRange (pos 1) z (pos 1)) (rd-is (s .fits .mark))) (c .is-byte .ensures ∙ ap isByte (rd-is (s .fits .identifier))))
-
-byte-of-requires : tie.Need-byte-of-requires
-byte-of-requires c κs = search needs
 
 returns-2 : tie.Need-returns-2
 returns-2 c =
@@ -63,15 +45,6 @@ returns-3 c =
     sym (offer-other (a .mark) (a .identifier) (a .value) (none (e .before) ∙ e .if1 .left) (marked b ∙ c .if2 .left))
 
 pub offer-of-spec : {M : Type 1} → statement M
-offer-of-spec =
-    tie.close
-    (tie.spec
-    in-range-requires
-    in-range-requires-2
-    in-range-requires-3
-    returns
-    in-range-requires-4
-    is-byte-requires
-    byte-of-requires
-    returns-2
-    returns-3)
+offer-of-spec = tie.close (tie.spec
+    (λ c κs. search needs) (λ c κs. search needs) (λ c κs. search needs) returns (λ c κs. search needs) (λ c κs. search needs)
+    (λ c κs. search needs) returns-2 returns-3)

@@ -11,9 +11,6 @@ use borrow.Author.Needs.{needs}
 use Rattle.row.proofs.open_count.Statement.{statement}
 use Rattle.row.proofs.open_count.Tie as tie
 
-cast-result : tie.Need-cast-result
-cast-result c = search needs
-
 returns : tie.Need-returns
 unfolding openOf
 returns c =
@@ -29,4 +26,4 @@ returns-2 c =
     ap pos (sym (ap length (take-all (l .len) (l .chars) (omega arith)) ∙ h))
 
 pub open-count-spec : {M : Type 1} → statement M
-open-count-spec = tie.close (tie.spec cast-result returns returns-2)
+open-count-spec = tie.close (tie.spec (λ c. search needs) returns returns-2)

@@ -25,12 +25,6 @@ abbrev μ-loop : tie.MeasureT-loop
 loop-holds : tie.Need-loop-holds Inv-loop μ-loop
 loop-holds c = copy-starts (map pos (c .before .args .pending .chars)) (c .before .args .row .now) 3
 
-array-read-wide : tie.Need-array-read-wide Inv-loop μ-loop
-array-read-wide c = search needs
-
-wide-requires : tie.Need-wide-requires Inv-loop μ-loop
-wide-requires c κs = search needs
-
 add-character : tie.Need-add-character Inv-loop μ-loop
 add-character c = omega arith
 
@@ -70,19 +64,6 @@ returns c =
     copy-ends (pos 0) (map pos chars) (s .args .row .now) 3 (l .loop .row) (l .loop .k) (l .loop .inv) (omega (arith, s .pre, ten)) (omega (arith, c .loop-test .left, ten))
 
 pub put-chars-spec : {M : Type 1} → statement M
-put-chars-spec =
-    tie.close
-    (tie.spec
-    Inv-loop
-    μ-loop
-    loop-holds
-    array-read-wide
-    wide-requires
-    add-character
-    mul-character
-    slice-set-from-character
-    add-k
-    loop-less
-    loop-again
-    same-length
-    returns)
+put-chars-spec = tie.close (tie.spec
+    Inv-loop μ-loop loop-holds (λ c. search needs) (λ c κs. search needs) add-character mul-character slice-set-from-character add-k
+    loop-less loop-again same-length returns)

@@ -8,27 +8,11 @@ use borrow.Author.Needs.{needs}
 use Rattle.row.proofs.put_numbers.Statement.{statement}
 use Rattle.row.proofs.put_numbers.Tie as tie
 
-slice-set-from-mark : tie.Need-slice-set-from-mark
-slice-set-from-mark c = search needs
-
 slice-set-from-identifier : tie.Need-slice-set-from-identifier
 slice-set-from-identifier c = lt-length-set (c .args .row .now) 13 _ (omega (arith, c .pre))
-
-slice-set-from-value : tie.Need-slice-set-from-value
-slice-set-from-value c = search needs
-
-same-length : tie.Need-same-length
-same-length c = search needs
 
 returns : tie.Need-returns
 returns c = simp (rd-is (c .fits .mark), rd-is (c .fits .identifier), rd-is (c .fits .value), sets-placed (c .args .mark ∷ c .args .identifier ∷ c .args .value ∷ []) (c .args .row .now) 13 (c .pre))
 
 pub put-numbers-spec : {M : Type 1} → statement M
-put-numbers-spec =
-    tie.close
-    (tie.spec
-    slice-set-from-mark
-    slice-set-from-identifier
-    slice-set-from-value
-    same-length
-    returns)
+put-numbers-spec = tie.close (tie.spec (λ c. search needs) slice-set-from-identifier (λ c. search needs) (λ c. search needs) returns)

@@ -12,24 +12,6 @@ use borrow.Author.Needs.{needs}
 use Rattle.row.proofs.put_offer.Statement.{statement}
 use Rattle.row.proofs.put_offer.Tie as tie
 
-enum-told : tie.Need-enum-told
-enum-told c = search needs
-
-put-numbers-requires : tie.Need-put-numbers-requires
-put-numbers-requires c κs = search needs
-
-enum-known-offer : tie.Need-enum-known-offer
-enum-known-offer c = search needs
-
-wide-requires : tie.Need-wide-requires
-wide-requires c κs = search needs
-
-put-numbers-requires-2 : tie.Need-put-numbers-requires-2
-put-numbers-requires-2 c κs = search needs
-
-same-length : tie.Need-same-length
-same-length c = search needs
-
 returns : tie.Need-returns
 unfolding offerRow
 returns c =
@@ -37,9 +19,6 @@ returns c =
     let t = p .before .before in
     let row = t .before .before .args .row .now in
     p .put-numbers .ensures ∙ ap (λ (o : Offer). placed (offerRow o) 13 row) (sym (t .enum-told .given .1))
-
-same-length-2 : tie.Need-same-length-2
-same-length-2 c = search needs
 
 returns-2 : tie.Need-returns-2
 unfolding offerRow
@@ -54,15 +33,6 @@ returns-2 c =
     ∙ ap (λ (x : Offer). placed (offerRow x) 13 row) (sym (o .offer .given .1))
 
 pub put-offer-spec : {M : Type 1} → statement M
-put-offer-spec =
-    tie.close
-    (tie.spec
-    enum-told
-    put-numbers-requires
-    enum-known-offer
-    wide-requires
-    put-numbers-requires-2
-    same-length
-    returns
-    same-length-2
-    returns-2)
+put-offer-spec = tie.close (tie.spec
+    (λ c. search needs) (λ c κs. search needs) (λ c. search needs) (λ c κs. search needs) (λ c κs. search needs) (λ c. search needs)
+    returns (λ c. search needs) returns-2)

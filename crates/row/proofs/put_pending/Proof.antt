@@ -11,12 +11,6 @@ use borrow.Author.Needs.{needs}
 use Rattle.row.proofs.put_pending.Statement.{statement}
 use Rattle.row.proofs.put_pending.Tie as tie
 
-open-count-requires : tie.Need-open-count-requires
-open-count-requires c κs = search needs
-
-slice-set-from-row : tie.Need-slice-set-from-row
-slice-set-from-row c = search needs
-
 put-chars-requires : tie.Need-put-chars-requires
 put-chars-requires c κs = lt-length-set (c .before .before .args .row .now) _ _ {i = 12} (c .before .before .pre)
 
@@ -32,6 +26,4 @@ returns c =
     ∙ pending-placed (a .pending) (a .row .now) (n .before .pre)
 
 pub put-pending-spec : {M : Type 1} → statement M
-put-pending-spec =
-    tie.close
-    (tie.spec open-count-requires slice-set-from-row put-chars-requires same-length returns)
+put-pending-spec = tie.close (tie.spec (λ c κs. search needs) (λ c. search needs) put-chars-requires same-length returns)

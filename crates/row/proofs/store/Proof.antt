@@ -15,15 +15,6 @@ ten s = search needs
 returns : tie.Need-returns
 returns c = sym (stored-short (c .before .args .card) (c .before .args .row .now) (ten (c .before)) (c .if1 .taken))
 
-put-pending-requires : tie.Need-put-pending-requires
-put-pending-requires c κs = search needs
-
-put-offer-requires : tie.Need-put-offer-requires
-put-offer-requires c κs = search needs
-
-same-length : tie.Need-same-length
-same-length c = search needs
-
 returns-2 : tie.Need-returns-2
 returns-2 c =
     let o = c .before in
@@ -33,5 +24,4 @@ returns-2 c =
     o .put-offer .ensures ∙ ap (placed (offerRow (a .card .offer)) 13) (p .put-pending .ensures) ∙ stored-parts (a .card) (a .row .now) (ten (n .before)) (n .if1 .left)
 
 pub store-spec : {M : Type 1} → statement M
-store-spec =
-    tie.close (tie.spec returns put-pending-requires put-offer-requires same-length returns-2)
+store-spec = tie.close (tie.spec returns (λ c κs. search needs) (λ c κs. search needs) (λ c. search needs) returns-2)

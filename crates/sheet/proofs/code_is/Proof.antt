@@ -18,11 +18,8 @@ unfolding codeIs
 bits (pos a) n f h = refl
 bits (negsuc a) n f h = ne-eqb (2 ^ 32 - suc a) n (λ (e : 2 ^ 32 - suc a ≡ n). omega (arith, f .sfits))
 
-cast-result : tie.Need-cast-result
-cast-result c = search needs
-
 returns : tie.Need-returns
 returns c = bits (c .args .x) (c .args .identifier) (c .fits .x) (search needs)
 
 pub code-is-spec : {M : Type 1} → statement M
-code-is-spec = tie.close (tie.spec cast-result returns)
+code-is-spec = tie.close (tie.spec (λ c. search needs) returns)

@@ -7,9 +7,6 @@ use Rattle.sheet.proofs.Marks.{sound-whole}
 use Rattle.sheet.proofs.entry_of.Statement.{statement}
 use Rattle.sheet.proofs.entry_of.Tie as tie
 
-sound-row-requires : tie.Need-sound-row-requires
-sound-row-requires c κs = search needs
-
 numbers-of-requires : tie.Need-numbers-of-requires
 numbers-of-requires c κs = sound-whole _ (sym (c .before .sound-row .ensures) ∙ c .if1 .taken)
 
@@ -22,4 +19,4 @@ unfolding entryOf
 returns-2 c = sym (rw (sym (c .before .sound-row .ensures) ∙ c .if1 .left) refl)
 
 pub entry-of-spec : {M : Type 1} → statement M
-entry-of-spec = tie.close (tie.spec sound-row-requires numbers-of-requires returns returns-2)
+entry-of-spec = tie.close (tie.spec (λ c κs. search needs) numbers-of-requires returns returns-2)

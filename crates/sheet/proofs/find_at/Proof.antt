@@ -12,15 +12,6 @@ use Rattle.sheet.specs.Values.{numbersOf, wholeRow, entryBy, entryAt}
 use Rattle.sheet.proofs.find_at.Statement.{statement}
 use Rattle.sheet.proofs.find_at.Tie as tie
 
-place-at-requires : tie.Need-place-at-requires
-place-at-requires c κs = search needs
-
-part-at-requires : tie.Need-part-at-requires
-part-at-requires c κs = search needs
-
-whole-row-requires : tie.Need-whole-row-requires
-whole-row-requires c κs = search needs
-
 numbers-of-requires : tie.Need-numbers-of-requires
 numbers-of-requires c κs = sym (c .before .whole-row .ensures) ∙ c .if1 .taken
 
@@ -50,4 +41,5 @@ returns-2 c =
     missing _ (sym (w .whole-row .ensures) ∙ c .if1 .left) ∙ ap entryBy (part-is (w .before))
 
 pub find-at-spec : {M : Type 1} → statement M
-find-at-spec = tie.close (tie.spec place-at-requires part-at-requires whole-row-requires numbers-of-requires returns returns-2)
+find-at-spec = tie.close (tie.spec
+    (λ c κs. search needs) (λ c κs. search needs) (λ c κs. search needs) numbers-of-requires returns returns-2)

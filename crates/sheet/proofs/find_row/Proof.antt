@@ -31,12 +31,6 @@ module _ (s : List ℤ) (at : ℕ × ℕ) (i p : ℕ) (e : p ≡ placeIn s i) wh
   unfolding hasRow
   lacks h = le-ltb (placeIn s i) (length s) (omega arith)
 
-place-in-requires : tie.Need-place-in-requires
-place-in-requires c κs = search needs
-
-six-requires : tie.Need-six-requires
-six-requires c κs = search needs
-
 returns : tie.Need-returns
 returns c =
     let p = c .before .before in
@@ -48,12 +42,6 @@ returns c =
       c .six .ensures .0 ∙ its-row b (a .bench .ptr) i _ e ∙ sym (bench-wins b (a .maker .now) i t),
       its-place b (a .bench .ptr) i _ e (c .six .ensures .1) ∙ sym (bench-lies b (a .maker .now) i (a .bench .ptr) (a .maker .ptr) t),
     )
-
-place-in-requires-2 : tie.Need-place-in-requires-2
-place-in-requires-2 c κs = search needs
-
-six-requires-2 : tie.Need-six-requires-2
-six-requires-2 c κs = search needs
 
 returns-2 : tie.Need-returns-2
 returns-2 c =
@@ -70,6 +58,5 @@ returns-2 c =
     )
 
 pub find-row-spec : {M : Type 1} → statement M
-find-row-spec =
-    tie.close
-    (tie.spec place-in-requires six-requires returns place-in-requires-2 six-requires-2 returns-2)
+find-row-spec = tie.close (tie.spec
+    (λ c κs. search needs) (λ c κs. search needs) returns (λ c κs. search needs) (λ c κs. search needs) returns-2)

@@ -20,12 +20,6 @@ use Rattle.sheet.proofs.Places.{outside, inside}
 use Rattle.sheet.proofs.fits_once.Statement.{statement}
 use Rattle.sheet.proofs.fits_once.Tie as tie
 
-shared-slice-copy-out-code : tie.Need-shared-slice-copy-out-code
-shared-slice-copy-out-code c = search needs
-
-in-range-requires : tie.Need-in-range-requires
-in-range-requires c κs = search needs
-
 module _ (c : tie.After-in-range) where
   abbrev row : List ℤ
   row = c .before .before .before .args .row .now
@@ -67,12 +61,6 @@ mul-value c = omega (arith, code (c .before) .1)
 shared-slice-copy-out-value : tie.Need-shared-slice-copy-out-value
 shared-slice-copy-out-value c = omega (arith, code (c .before) .1)
 
-fits-place-requires : tie.Need-fits-place-requires
-fits-place-requires c κs = search needs
-
-same-length : tie.Need-same-length
-same-length c = search needs
-
 returns-2 : tie.Need-returns-2
 unfolding fitsOnce
 returns-2 c =
@@ -89,17 +77,6 @@ returns-2 c =
     )
 
 pub fits-once-spec : {M : Type 1} → statement M
-fits-once-spec =
-    tie.close
-    (tie.spec
-    shared-slice-copy-out-code
-    in-range-requires
-    returns
-    cast-place
-    slice-read-before
-    slice-write-seen
-    mul-value
-    shared-slice-copy-out-value
-    fits-place-requires
-    same-length
-    returns-2)
+fits-once-spec = tie.close (tie.spec
+    (λ c. search needs) (λ c κs. search needs) returns cast-place slice-read-before slice-write-seen mul-value shared-slice-copy-out-value
+    (λ c κs. search needs) (λ c. search needs) returns-2)

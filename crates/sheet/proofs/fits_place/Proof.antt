@@ -11,21 +11,6 @@ returns : tie.Need-returns
 unfolding fitsPlace
 returns c = rw (ne-eqb _ 6 (c .if1 .taken))
 
-shared-slice-copy-out-in-range : tie.Need-shared-slice-copy-out-in-range
-shared-slice-copy-out-in-range c = search needs
-
-shared-slice-copy-out-in-range-2 : tie.Need-shared-slice-copy-out-in-range-2
-shared-slice-copy-out-in-range-2 c = search needs
-
-in-range-requires : tie.Need-in-range-requires
-in-range-requires c κs = search needs
-
-shared-slice-copy-out-is-multiple : tie.Need-shared-slice-copy-out-is-multiple
-shared-slice-copy-out-is-multiple c = search needs
-
-is-multiple-requires : tie.Need-is-multiple-requires
-is-multiple-requires c κs = search needs
-
 returns-2 : tie.Need-returns-2
 unfolding fitsPlace fitsRow numbersOf
 returns-2 c =
@@ -43,13 +28,5 @@ returns-2 c =
     )
 
 pub fits-place-spec : {M : Type 1} → statement M
-fits-place-spec =
-    tie.close
-    (tie.spec
-    returns
-    shared-slice-copy-out-in-range
-    shared-slice-copy-out-in-range-2
-    in-range-requires
-    shared-slice-copy-out-is-multiple
-    is-multiple-requires
-    returns-2)
+fits-place-spec = tie.close (tie.spec
+    returns (λ c. search needs) (λ c. search needs) (λ c κs. search needs) (λ c. search needs) (λ c κs. search needs) returns-2)

@@ -5,12 +5,6 @@ use borrow.Author.Needs.{needs}
 use Rattle.sheet.proofs.fits_row.Statement.{statement}
 use Rattle.sheet.proofs.fits_row.Tie as tie
 
-in-range-requires : tie.Need-in-range-requires
-in-range-requires c κs = search needs
-
-is-multiple-requires : tie.Need-is-multiple-requires
-is-multiple-requires c κs = search needs
-
 returns : tie.Need-returns
 unfolding fitsRow
 returns c =
@@ -27,4 +21,4 @@ returns c =
     )
 
 pub fits-row-spec : {M : Type 1} → statement M
-fits-row-spec = tie.close (tie.spec in-range-requires is-multiple-requires returns)
+fits-row-spec = tie.close (tie.spec (λ c κs. search needs) (λ c κs. search needs) returns)

@@ -65,20 +65,6 @@ returns c =
     ends (a .sheet .now) (a .values .now) (a .seen .now) (l .loop .seen) (l .loop .fits) (l .loop .i) (l .loop .inv) (omega arith)
 
 pub fits-rows-spec : {M : Type 1} → statement M
-fits-rows-spec =
-    tie.close
-    (tie.spec
-    Inv-loop
-    μ-loop
-    loop-holds
-    sub-loop
-    add-next
-    mul-fits-once
-    sub-fits-once
-    part-fits-once-start
-    part-fits-once-end
-    fits-once-requires
-    loop-less
-    loop-again
-    same-length
-    returns)
+fits-rows-spec = tie.close (tie.spec
+    Inv-loop μ-loop loop-holds sub-loop add-next mul-fits-once sub-fits-once part-fits-once-start part-fits-once-end fits-once-requires
+    loop-less loop-again same-length returns)

@@ -6,21 +6,6 @@ use Rattle.sheet.proofs.Marks.{marked-both}
 use Rattle.sheet.proofs.index.Statement.{statement}
 use Rattle.sheet.proofs.index.Tie as tie
 
-add-end : tie.Need-add-end
-add-end c = search needs
-
-slice-aggregate-mark : tie.Need-slice-aggregate-mark
-slice-aggregate-mark c = search needs
-
-mark-requires : tie.Need-mark-requires
-mark-requires c κs = search needs
-
-slice-aggregate-mark-2 : tie.Need-slice-aggregate-mark-2
-slice-aggregate-mark-2 c = search needs
-
-mark-requires-2 : tie.Need-mark-requires-2
-mark-requires-2 c κs = search needs
-
 returns : tie.Need-returns
 returns c =
     let k = c .before in
@@ -28,12 +13,5 @@ returns c =
     k .mark2 .ensures ∙ ap (marked (a .bench .now) 0) (k .before .before .before .mark .ensures) ∙ marked-both (a .bench .now) (a .maker .now)
 
 pub index-spec : {M : Type 1} → statement M
-index-spec =
-    tie.close
-    (tie.spec
-    add-end
-    slice-aggregate-mark
-    mark-requires
-    slice-aggregate-mark-2
-    mark-requires-2
-    returns)
+index-spec = tie.close (tie.spec
+    (λ c. search needs) (λ c. search needs) (λ c κs. search needs) (λ c. search needs) (λ c κs. search needs) returns)

@@ -10,36 +10,15 @@ use borrow.Author.Needs.{needs}
 use Rattle.sheet.proofs.lookup.Statement.{statement}
 use Rattle.sheet.proofs.lookup.Tie as tie
 
-sound-sheet-requires : tie.Need-sound-sheet-requires
-sound-sheet-requires c κs = search needs
-
-sound-sheet-requires-2 : tie.Need-sound-sheet-requires-2
-sound-sheet-requires-2 c κs = search needs
-
 -- what the test tells of the two sheets
 was : (c : tie.After-sound-sheet2) → (soundSheet (c .before .before .args .bench .now) && soundSheet (c .before .before .args .maker .now)) ≡ (c .before .sound-sheet .result && c .sound-sheet2 .result)
 was c = simp (c .before .sound-sheet .ensures, c .sound-sheet2 .ensures)
-
-find-row-requires : tie.Need-find-row-requires
-find-row-requires c κs = search needs
 
 returns : tie.Need-returns
 unfolding shown shownLies
 returns c =
     let e = was (c .before .before) ∙ c .before .if1 .taken in
     (rw e (c .find-row .ensures .0), rw e (c .find-row .ensures .1))
-
-mul-result : tie.Need-mul-result
-mul-result c = search needs
-
-sub-result : tie.Need-sub-result
-sub-result c = search needs
-
-part-result-start : tie.Need-part-result-start
-part-result-start c = search needs
-
-part-result-end : tie.Need-part-result-end
-part-result-end c = search needs
 
 returns-2 : tie.Need-returns-2
 unfolding shown shownLies
@@ -50,15 +29,6 @@ returns-2 c =
     (rw (e, none), rw e)
 
 pub lookup-spec : {M : Type 1} → statement M
-lookup-spec =
-    tie.close
-    (tie.spec
-    sound-sheet-requires
-    sound-sheet-requires-2
-    find-row-requires
-    returns
-    mul-result
-    sub-result
-    part-result-start
-    part-result-end
-    returns-2)
+lookup-spec = tie.close (tie.spec
+    (λ c κs. search needs) (λ c κs. search needs) (λ c κs. search needs) returns (λ c. search needs) (λ c. search needs)
+    (λ c. search needs) (λ c. search needs) returns-2)

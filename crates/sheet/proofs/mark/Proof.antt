@@ -33,9 +33,6 @@ shared-slice-copy-out-mark-row c = omega arith
 add-mark-row : tie.Need-add-mark-row Inv-loop μ-loop
 add-mark-row c = omega arith
 
-mark-row-requires : tie.Need-mark-row-requires Inv-loop μ-loop
-mark-row-requires c κs = search needs
-
 loop-less : tie.Need-loop-less Inv-loop μ-loop
 loop-less c = omega arith
 
@@ -60,18 +57,6 @@ returns c =
     marked-all (a .sheet .now) (a .base) (a .places .now) (l .loop .places) (l .loop .k) (c .loop-test .left) (l .loop .inv)
 
 pub mark-spec : {M : Type 1} → statement M
-mark-spec =
-    tie.close
-    (tie.spec
-    Inv-loop
-    μ-loop
-    sub-k
-    loop-holds
-    mul-mark-row
-    shared-slice-copy-out-mark-row
-    add-mark-row
-    mark-row-requires
-    loop-less
-    loop-again
-    same-length
-    returns)
+mark-spec = tie.close (tie.spec
+    Inv-loop μ-loop sub-k loop-holds mul-mark-row shared-slice-copy-out-mark-row add-mark-row (λ c κs. search needs) loop-less loop-again
+    same-length returns)

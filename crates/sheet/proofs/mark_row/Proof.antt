@@ -41,15 +41,6 @@ cast-at c =
     subst (λ (z : ℤ). T (nonNeg z) × Fits w64 (natAbs z)) (sym (rd-is (c .before .fits .code) ∙ from-zero (a .code) (not-neg c)))
     (tt, record { fits = omega (arith, natAbs-fits (a .code) (c .before .fits .code)) })
 
-mul-places : tie.Need-mul-places
-mul-places c = search needs
-
-slice-write-places : tie.Need-slice-write-places
-slice-write-places c = search needs
-
-same-length : tie.Need-same-length
-same-length c = search needs
-
 returns-2 : tie.Need-returns-2
 returns-2 c =
     let s = c .before .before in
@@ -64,6 +55,4 @@ returns-3 c =
     ∙ ap (λ (z : ℤ). set (a .places .now) (natAbs z) (a .place)) (rd-is (s .fits .code)) ∙ above (a .code) (a .place) (a .places .now) (not-neg (c .before))
 
 pub mark-row-spec : {M : Type 1} → statement M
-mark-row-spec =
-    tie.close
-    (tie.spec returns cast-at mul-places slice-write-places same-length returns-2 returns-3)
+mark-row-spec = tie.close (tie.spec returns cast-at (λ c. search needs) (λ c. search needs) (λ c. search needs) returns-2 returns-3)

@@ -48,14 +48,6 @@ returns c =
     )
 
 pub numbers-of-spec : {M : Type 1} → statement M
-numbers-of-spec =
-    tie.close
-    (tie.spec
-    shared-slice-copy-out-access
-    cast-access
-    shared-slice-copy-out-decimals
-    cast-decimals
-    shared-slice-copy-out-step
-    shared-slice-copy-out-least
-    shared-slice-copy-out-greatest
-    returns)
+numbers-of-spec = tie.close (tie.spec
+    shared-slice-copy-out-access cast-access shared-slice-copy-out-decimals cast-decimals shared-slice-copy-out-step
+    shared-slice-copy-out-least shared-slice-copy-out-greatest returns)

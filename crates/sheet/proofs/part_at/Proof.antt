@@ -6,22 +6,13 @@ use Rattle.sheet.specs.Lookup.{partAt}
 use Rattle.sheet.proofs.part_at.Statement.{statement}
 use Rattle.sheet.proofs.part_at.Tie as tie
 
-six-requires : tie.Need-six-requires
-six-requires c κs = search needs
-
 returns : tie.Need-returns
 unfolding partAt
 returns c = c .six .ensures .0 ∙ sym (rw (lt-ltb _ _ (c .before .if1 .taken)) refl)
-
-sub-six : tie.Need-sub-six
-sub-six c = search needs
-
-six-requires-2 : tie.Need-six-requires-2
-six-requires-2 c κs = search needs
 
 returns-2 : tie.Need-returns-2
 unfolding partAt
 returns-2 c = c .six2 .ensures .0 ∙ sym (rw (le-ltb _ _ (c .before .if1 .left)) refl)
 
 pub part-at-spec : {M : Type 1} → statement M
-part-at-spec = tie.close (tie.spec six-requires returns sub-six six-requires-2 returns-2)
+part-at-spec = tie.close (tie.spec (λ c κs. search needs) returns (λ c. search needs) (λ c κs. search needs) returns-2)

@@ -6,15 +6,6 @@ use Rattle.sheet.proofs.Marks.{getD-within}
 use Rattle.sheet.proofs.place_at.Statement.{statement}
 use Rattle.sheet.proofs.place_at.Tie as tie
 
-mul-result : tie.Need-mul-result
-mul-result c = search needs
-
-shared-slice-read-result : tie.Need-shared-slice-read-result
-shared-slice-read-result c = search needs
-
-add-result : tie.Need-add-result
-add-result c = search needs
-
 returns : tie.Need-returns
 returns c = let a = c .before .before .args in getD-within (a .places .now) (a .identifier) 0 _ (c .before .if1 .taken)
 
@@ -22,5 +13,4 @@ returns-2 : tie.Need-returns-2
 returns-2 c = let a = c .before .args in sym (List·getD-eq-default (a .places .now) _ {n = a .identifier} (c .if1 .left))
 
 pub place-at-spec : {M : Type 1} → statement M
-place-at-spec =
-    tie.close (tie.spec mul-result shared-slice-read-result add-result returns returns-2)
+place-at-spec = tie.close (tie.spec (λ c. search needs) (λ c. search needs) (λ c. search needs) returns returns-2)

@@ -32,9 +32,6 @@ mul-code-is c = omega arith
 shared-slice-copy-out-code-is : tie.Need-shared-slice-copy-out-code-is Inv-loop μ-loop
 shared-slice-copy-out-code-is c = omega arith
 
-code-is-requires : tie.Need-code-is-requires Inv-loop μ-loop
-code-is-requires c κs = search needs
-
 module _ (c : tie.After-code-is Inv-loop μ-loop) where
   abbrev sheet : List ℤ
   sheet = c .before .before .before .before .args .sheet .now
@@ -77,18 +74,6 @@ returns-2 c =
     omega (arith, e, length-drop (c .before .loop .i) (a .sheet .now))
 
 pub place-in-spec : {M : Type 1} → statement M
-place-in-spec =
-    tie.close
-    (tie.spec
-    Inv-loop
-    μ-loop
-    loop-holds
-    sub-loop
-    mul-code-is
-    shared-slice-copy-out-code-is
-    code-is-requires
-    returns
-    add-i
-    loop-less
-    loop-again
+place-in-spec = tie.close (tie.spec
+    Inv-loop μ-loop loop-holds sub-loop mul-code-is shared-slice-copy-out-code-is (λ c κs. search needs) returns add-i loop-less loop-again
     returns-2)

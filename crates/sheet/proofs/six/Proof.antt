@@ -9,18 +9,6 @@ use Rattle.sheet.specs.Lookup.{from}
 use Rattle.sheet.proofs.six.Statement.{statement}
 use Rattle.sheet.proofs.six.Tie as tie
 
-mul-result : tie.Need-mul-result
-mul-result c = search needs
-
-sub-result : tie.Need-sub-result
-sub-result c = search needs
-
-part-result-start : tie.Need-part-result-start
-part-result-start c = search needs
-
-part-result-end : tie.Need-part-result-end
-part-result-end c = search needs
-
 returns : tie.Need-returns
 returns c =
     let a = c .before .before .args in
@@ -29,42 +17,12 @@ returns c =
     let end : length s ≤ a .start → a .start ≤ length s → length s ≡ a .start = λ g h. omega arith in
     (ap (λ (n : ℕ). take n (drop (length s) s)) e ∙ sym (ap (take 6) (drop-of-length-le s (c .before .if1 .taken))), λ h. ap (from (a .sheet .ptr)) (end (c .before .if1 .taken) h))
 
-sub-if2 : tie.Need-sub-if2
-sub-if2 c = search needs
-
-mul-result-2 : tie.Need-mul-result-2
-mul-result-2 c = search needs
-
-sub-result-2 : tie.Need-sub-result-2
-sub-result-2 c = search needs
-
-part-result-start-2 : tie.Need-part-result-start-2
-part-result-start-2 c = search needs
-
-part-result-end-2 : tie.Need-part-result-end-2
-part-result-end-2 c = search needs
-
 returns-2 : tie.Need-returns-2
 returns-2 c =
     let a = c .before .before .before .args in
     let s = a .sheet .now in
     let n = length-drop (a .start) s in
     (take-all (length s - a .start) (drop (a .start) s) (omega arith) ∙ sym (take-all 6 (drop (a .start) s) (omega arith)), λ h. refl)
-
-add-end : tie.Need-add-end
-add-end c = search needs
-
-mul-result-3 : tie.Need-mul-result-3
-mul-result-3 c = search needs
-
-sub-result-3 : tie.Need-sub-result-3
-sub-result-3 c = search needs
-
-part-result-start-3 : tie.Need-part-result-start-3
-part-result-start-3 c = search needs
-
-part-result-end-3 : tie.Need-part-result-end-3
-part-result-end-3 c = search needs
 
 returns-3 : tie.Need-returns-3
 returns-3 c =
@@ -73,23 +31,7 @@ returns-3 c =
     (ap (λ (n : ℕ). take n (drop (a .start) (a .sheet .now))) e, λ h. refl)
 
 pub six-spec : {M : Type 1} → statement M
-six-spec =
-    tie.close
-    (tie.spec
-    mul-result
-    sub-result
-    part-result-start
-    part-result-end
-    returns
-    sub-if2
-    mul-result-2
-    sub-result-2
-    part-result-start-2
-    part-result-end-2
-    returns-2
-    add-end
-    mul-result-3
-    sub-result-3
-    part-result-start-3
-    part-result-end-3
-    returns-3)
+six-spec = tie.close (tie.spec
+    (λ c. search needs) (λ c. search needs) (λ c. search needs) (λ c. search needs) returns (λ c. search needs) (λ c. search needs)
+    (λ c. search needs) (λ c. search needs) (λ c. search needs) returns-2 (λ c. search needs) (λ c. search needs) (λ c. search needs)
+    (λ c. search needs) (λ c. search needs) returns-3)

@@ -31,9 +31,6 @@ outside (pos n) e =
     sym
 outside (negsuc n) e = unfold soundIdentifier in refl
 
-in-range-requires : tie.Need-in-range-requires
-in-range-requires c κs = search needs
-
 -- what the test tells of the number
 was : (c : tie.After-in-range) → inRange (pos 0) (c .before .args .x) (pos 127) ≡ c .in-range .result
 was c = ap (λ (z : ℤ). inRange (pos 0) z (pos 127)) (sym (rd-is (c .before .fits .x))) ∙ sym (c .in-range .ensures)
@@ -44,9 +41,6 @@ cast-c c =
     let r = range-cast (pos 0) (s .args .x) (pos 127) refl (was (c .before) ∙ c .if1 .taken) (s .fits .x) in
     (r .0, record { fits = omega (arith, r .1) })
 
-is-identifier-requires : tie.Need-is-identifier-requires
-is-identifier-requires c κs = search needs
-
 returns : tie.Need-returns
 returns c =
     let s = c .before .before .before in
@@ -56,5 +50,4 @@ returns-2 : tie.Need-returns-2
 returns-2 c = outside (c .before .before .args .x) (was (c .before) ∙ c .if1 .left)
 
 pub sound-identifier-spec : {M : Type 1} → statement M
-sound-identifier-spec =
-    tie.close (tie.spec in-range-requires cast-c is-identifier-requires returns returns-2)
+sound-identifier-spec = tie.close (tie.spec (λ c κs. search needs) cast-c (λ c κs. search needs) returns returns-2)

@@ -5,30 +5,6 @@ use borrow.Author.Needs.{needs}
 use Rattle.sheet.proofs.sound_numbers.Statement.{statement}
 use Rattle.sheet.proofs.sound_numbers.Tie as tie
 
-sound-identifier-requires : tie.Need-sound-identifier-requires
-sound-identifier-requires c κs = search needs
-
-in-range-requires : tie.Need-in-range-requires
-in-range-requires c κs = search needs
-
-in-range-requires-2 : tie.Need-in-range-requires-2
-in-range-requires-2 c κs = search needs
-
-in-range-requires-3 : tie.Need-in-range-requires-3
-in-range-requires-3 c κs = search needs
-
-in-range-requires-4 : tie.Need-in-range-requires-4
-in-range-requires-4 c κs = search needs
-
-in-range-requires-5 : tie.Need-in-range-requires-5
-in-range-requires-5 c κs = search needs
-
-is-multiple-requires : tie.Need-is-multiple-requires
-is-multiple-requires c κs = search needs
-
-is-multiple-requires-2 : tie.Need-is-multiple-requires-2
-is-multiple-requires-2 c κs = search needs
-
 returns : tie.Need-returns
 unfolding soundNumbers
 returns c =
@@ -53,15 +29,6 @@ returns c =
     )
 
 pub sound-numbers-spec : {M : Type 1} → statement M
-sound-numbers-spec =
-    tie.close
-    (tie.spec
-    sound-identifier-requires
-    in-range-requires
-    in-range-requires-2
-    in-range-requires-3
-    in-range-requires-4
-    in-range-requires-5
-    is-multiple-requires
-    is-multiple-requires-2
-    returns)
+sound-numbers-spec = tie.close (tie.spec
+    (λ c κs. search needs) (λ c κs. search needs) (λ c κs. search needs) (λ c κs. search needs) (λ c κs. search needs)
+    (λ c κs. search needs) (λ c κs. search needs) (λ c κs. search needs) returns)

@@ -10,27 +10,6 @@ returns : tie.Need-returns
 unfolding soundRow
 returns c = rw (ne-eqb _ 6 (c .if1 .taken))
 
-shared-slice-copy-out-sound-numbers : tie.Need-shared-slice-copy-out-sound-numbers
-shared-slice-copy-out-sound-numbers c = search needs
-
-shared-slice-copy-out-sound-numbers-2 : tie.Need-shared-slice-copy-out-sound-numbers-2
-shared-slice-copy-out-sound-numbers-2 c = search needs
-
-shared-slice-copy-out-sound-numbers-3 : tie.Need-shared-slice-copy-out-sound-numbers-3
-shared-slice-copy-out-sound-numbers-3 c = search needs
-
-shared-slice-copy-out-sound-numbers-4 : tie.Need-shared-slice-copy-out-sound-numbers-4
-shared-slice-copy-out-sound-numbers-4 c = search needs
-
-shared-slice-copy-out-sound-numbers-5 : tie.Need-shared-slice-copy-out-sound-numbers-5
-shared-slice-copy-out-sound-numbers-5 c = search needs
-
-shared-slice-copy-out-sound-numbers-6 : tie.Need-shared-slice-copy-out-sound-numbers-6
-shared-slice-copy-out-sound-numbers-6 c = search needs
-
-sound-numbers-requires : tie.Need-sound-numbers-requires
-sound-numbers-requires c κs = search needs
-
 returns-2 : tie.Need-returns-2
 unfolding soundRow
 returns-2 c =
@@ -49,15 +28,6 @@ returns-2 c =
     )
 
 pub sound-row-spec : {M : Type 1} → statement M
-sound-row-spec =
-    tie.close
-    (tie.spec
-    returns
-    shared-slice-copy-out-sound-numbers
-    shared-slice-copy-out-sound-numbers-2
-    shared-slice-copy-out-sound-numbers-3
-    shared-slice-copy-out-sound-numbers-4
-    shared-slice-copy-out-sound-numbers-5
-    shared-slice-copy-out-sound-numbers-6
-    sound-numbers-requires
-    returns-2)
+sound-row-spec = tie.close (tie.spec
+    returns (λ c. search needs) (λ c. search needs) (λ c. search needs) (λ c. search needs) (λ c. search needs) (λ c. search needs)
+    (λ c κs. search needs) returns-2)

@@ -55,9 +55,6 @@ part-sound-row-start c = omega arith
 part-sound-row-end : tie.Need-part-sound-row-end Inv-loop μ-loop
 part-sound-row-end c = omega arith
 
-sound-row-requires : tie.Need-sound-row-requires Inv-loop μ-loop
-sound-row-requires c κs = search needs
-
 module _ (c : tie.After-sound-row Inv-loop μ-loop) where
   abbrev turn : tie.At-loop Inv-loop μ-loop
   turn = c .before .before .before .before
@@ -112,23 +109,6 @@ returns-3 c =
     ∙ sheet-short s (l .loop .inv .1)
 
 pub sound-sheet-spec : {M : Type 1} → statement M
-sound-sheet-spec =
-    tie.close
-    (tie.spec
-    Inv-loop
-    μ-loop
-    returns
-    loop-holds
-    sub-loop
-    mul-identifier
-    shared-slice-copy-out-identifier
-    add-next
-    mul-sound-row
-    sub-sound-row
-    part-sound-row-start
-    part-sound-row-end
-    sound-row-requires
-    returns-2
-    loop-less
-    loop-again
-    returns-3)
+sound-sheet-spec = tie.close (tie.spec
+    Inv-loop μ-loop returns loop-holds sub-loop mul-identifier shared-slice-copy-out-identifier add-next mul-sound-row sub-sound-row
+    part-sound-row-start part-sound-row-end (λ c κs. search needs) returns-2 loop-less loop-again returns-3)

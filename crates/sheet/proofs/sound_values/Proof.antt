@@ -16,18 +16,6 @@ returns c =
     let a = c .before .args in
     values-count (a .bench .now) (a .maker .now) (a .values .now) (λ (e : length (a .values .now) ≡ 128). omega arith)
 
-slice-aggregate-fits-rows : tie.Need-slice-aggregate-fits-rows
-slice-aggregate-fits-rows c = search needs
-
-fits-rows-requires : tie.Need-fits-rows-requires
-fits-rows-requires c κs = search needs
-
-slice-aggregate-fits-rows-2 : tie.Need-slice-aggregate-fits-rows-2
-slice-aggregate-fits-rows-2 c = search needs
-
-fits-rows-requires-2 : tie.Need-fits-rows-requires-2
-fits-rows-requires-2 c κs = search needs
-
 returns-2 : tie.Need-returns-2
 returns-2 c =
     let m = c .before in
@@ -37,12 +25,5 @@ returns-2 c =
     ∙ values-by-rows (a .bench .now) (a .maker .now) (a .values .now) (omega arith)
 
 pub sound-values-spec : {M : Type 1} → statement M
-sound-values-spec =
-    tie.close
-    (tie.spec
-    returns
-    slice-aggregate-fits-rows
-    fits-rows-requires
-    slice-aggregate-fits-rows-2
-    fits-rows-requires-2
-    returns-2)
+sound-values-spec = tie.close (tie.spec
+    returns (λ c. search needs) (λ c κs. search needs) (λ c. search needs) (λ c κs. search needs) returns-2)

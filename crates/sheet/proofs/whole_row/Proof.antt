@@ -15,18 +15,6 @@ returns : tie.Need-returns
 unfolding wholeRow
 returns c = sym (rw (ne-eqb _ 6 (c .if1 .taken)) refl)
 
-shared-slice-copy-out-in-range : tie.Need-shared-slice-copy-out-in-range
-shared-slice-copy-out-in-range c = search needs
-
-in-range-requires : tie.Need-in-range-requires
-in-range-requires c κs = search needs
-
-shared-slice-copy-out-in-range-2 : tie.Need-shared-slice-copy-out-in-range-2
-shared-slice-copy-out-in-range-2 c = search needs
-
-in-range-requires-2 : tie.Need-in-range-requires-2
-in-range-requires-2 c κs = search needs
-
 returns-2 : tie.Need-returns-2
 unfolding wholeRow
 returns-2 c =
@@ -38,6 +26,5 @@ returns-2 c =
     ∙ sym (rw (eq-eqb _ 6 (e .if1 .left)) refl)
 
 pub whole-row-spec : {M : Type 1} → statement M
-whole-row-spec =
-    tie.close
-    (tie.spec returns shared-slice-copy-out-in-range in-range-requires shared-slice-copy-out-in-range-2 in-range-requires-2 returns-2)
+whole-row-spec = tie.close (tie.spec
+    returns (λ c. search needs) (λ c κs. search needs) (λ c. search needs) (λ c κs. search needs) returns-2)

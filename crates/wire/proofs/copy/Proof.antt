@@ -47,17 +47,5 @@ returns c =
     copy-ends 0 (a .bytes .now) (a .out .now) (a .at) (l .loop .out) (l .loop .k) (l .loop .inv) (l .before .pre) (c .loop-test .left)
 
 pub copy-spec : {M : Type 1} → statement M
-copy-spec =
-    tie.close
-    (tie.spec
-    Inv-loop
-    μ-loop
-    loop-holds
-    shared-slice-read-out
-    add-out
-    slice-write-out
-    add-k
-    loop-less
-    loop-again
-    same-length
-    returns)
+copy-spec = tie.close (tie.spec
+    Inv-loop μ-loop loop-holds shared-slice-read-out add-out slice-write-out add-k loop-less loop-again same-length returns)

@@ -15,19 +15,10 @@ returns c =
     let a = c .before .before .before .args in
     sym (unplaced-call (a .bytes .now) (a .at) (a .out .now) (fits-not (a .bytes .now) (a .at) (a .out .now) (omega arith)))
 
-sub-if2 : tie.Need-sub-if2
-sub-if2 c = search needs
-
 returns-2 : tie.Need-returns-2
 returns-2 c =
     let a = c .before .before .before .before .args in
     sym (unplaced-call (a .bytes .now) (a .at) (a .out .now) (fits-not (a .bytes .now) (a .at) (a .out .now) (omega arith)))
-
-copy-requires : tie.Need-copy-requires
-copy-requires c κs = search needs
-
-same-length : tie.Need-same-length
-same-length c = search needs
 
 returns-3 : tie.Need-returns-3
 returns-3 c =
@@ -36,4 +27,4 @@ returns-3 c =
     ∙ sym (placed-call (a .bytes .now) (a .at) (a .out .now) (fits-at (a .bytes .now) (a .at) (a .out .now) (omega arith)))
 
 pub place-spec : {M : Type 1} → statement M
-place-spec = tie.close (tie.spec returns sub-if2 returns-2 copy-requires same-length returns-3)
+place-spec = tie.close (tie.spec returns (λ c. search needs) returns-2 (λ c κs. search needs) (λ c. search needs) returns-3)

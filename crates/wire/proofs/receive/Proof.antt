@@ -10,12 +10,6 @@ returns : tie.Need-returns
 unfolding received
 returns c = simp (le-ltb _ _ (c .if1 .taken))
 
-cast-byte : tie.Need-cast-byte
-cast-byte c = search needs
-
-has-even-parity-requires : tie.Need-has-even-parity-requires
-has-even-parity-requires c κs = search needs
-
 returns-2 : tie.Need-returns-2
 unfolding received
 returns-2 c = simp (lt-ltb _ _ (c .before .before .if1 .left), sym (c .before .has-even-parity .ensures) ∙ c .if2 .taken)
@@ -25,4 +19,4 @@ unfolding received
 returns-3 c = simp (lt-ltb _ _ (c .before .before .if1 .left), sym (c .before .has-even-parity .ensures) ∙ c .if2 .left)
 
 pub receive-spec : {M : Type 1} → statement M
-receive-spec = tie.close (tie.spec returns cast-byte has-even-parity-requires returns-2 returns-3)
+receive-spec = tie.close (tie.spec returns (λ c. search needs) (λ c κs. search needs) returns-2 returns-3)

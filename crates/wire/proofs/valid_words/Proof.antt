@@ -44,15 +44,4 @@ returns c =
     let l = c .before in test-ends is-word 0 (l .before .args .words .now) (l .loop .inv) (c .loop-test .left)
 
 pub valid-words-spec : {M : Type 1} → statement M
-valid-words-spec =
-    tie.close
-    (tie.spec
-    Inv-loop
-    μ-loop
-    loop-holds
-    mul-valid
-    shared-slice-read-valid
-    add-i
-    loop-less
-    loop-again
-    returns)
+valid-words-spec = tie.close (tie.spec Inv-loop μ-loop loop-holds mul-valid shared-slice-read-valid add-i loop-less loop-again returns)

@@ -6,9 +6,6 @@ use borrow.Author.Needs.{needs}
 use Rattle.card.proofs.Card.add.Statement.{statement}
 use Rattle.card.proofs.Card.add.Tie as tie
 
-add-requires : tie.Need-add-requires
-add-requires c κs = search needs
-
 returns : tie.Need-returns
 returns c =
     let a = c .before in
@@ -16,4 +13,4 @@ returns c =
     ap (λ (p : Pending). withBoth s p (s .offer)) (a .add .ensures)
 
 pub add-spec : {M : Type 1} → statement M
-add-spec = tie.close (tie.spec add-requires returns)
+add-spec = tie.close (tie.spec (λ c κs. search needs) returns)

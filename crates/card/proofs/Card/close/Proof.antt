@@ -6,9 +6,6 @@ use borrow.Author.Needs.{needs}
 use Rattle.card.proofs.Card.close.Statement.{statement}
 use Rattle.card.proofs.Card.close.Tie as tie
 
-new-requires : tie.Need-new-requires
-new-requires c κs = search needs
-
 returns : tie.Need-returns
 returns c =
     let n = c .before in
@@ -16,4 +13,4 @@ returns c =
     ap (λ (p : Pending). withBoth s p (s .offer)) (n .new .ensures)
 
 pub close-spec : {M : Type 1} → statement M
-close-spec = tie.close (tie.spec new-requires returns)
+close-spec = tie.close (tie.spec (λ c κs. search needs) returns)

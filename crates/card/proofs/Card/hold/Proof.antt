@@ -10,15 +10,6 @@ use borrow.Author.Needs.{needs}
 use Rattle.card.proofs.Card.hold.Statement.{statement}
 use Rattle.card.proofs.Card.hold.Tie as tie
 
-enum-known-offer : tie.Need-enum-known-offer
-enum-known-offer c = search needs
-
-enum-told : tie.Need-enum-told
-enum-told c = search needs
-
-drop-offer-requires : tie.Need-drop-offer-requires
-drop-offer-requires c κs = search needs
-
 returns : tie.Need-returns
 returns c = c .drop-offer .ensures ∙ ap (withBoth (c .before .before .before .args .self) (c .before .before .before .args .self .pending)) (sym (c .before .enum-told .given .1))
 
@@ -31,4 +22,4 @@ returns-2 c =
     ap (λ (z : ℤ). withBoth (s .args .self) (s .args .self .pending) (Held (o .0 .0) z)) (rd-is f) ∙ ap (withBoth (s .args .self) (s .args .self .pending)) (sym (o .1))
 
 pub hold-spec : {M : Type 1} → statement M
-hold-spec = tie.close (tie.spec enum-known-offer enum-told drop-offer-requires returns returns-2)
+hold-spec = tie.close (tie.spec (λ c. search needs) (λ c. search needs) (λ c κs. search needs) returns returns-2)

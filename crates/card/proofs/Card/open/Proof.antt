@@ -7,12 +7,6 @@ use borrow.Author.Needs.{needs}
 use Rattle.card.proofs.Card.open.Statement.{statement}
 use Rattle.card.proofs.Card.open.Tie as tie
 
-new-requires : tie.Need-new-requires
-new-requires c κs = search needs
-
-add-requires : tie.Need-add-requires
-add-requires c κs = search needs
-
 returns : tie.Need-returns
 returns c =
     let a = c .before in
@@ -20,4 +14,4 @@ returns c =
     ap (λ (p : Pending). withBoth (s .self) p (s .self .offer)) (a .add .ensures ∙ ap (λ (p : Pending). added p (s .c)) (a .before .new .ensures))
 
 pub open-spec : {M : Type 1} → statement M
-open-spec = tie.close (tie.spec new-requires add-requires returns)
+open-spec = tie.close (tie.spec (λ c κs. search needs) (λ c κs. search needs) returns)

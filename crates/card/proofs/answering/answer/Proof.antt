@@ -8,36 +8,6 @@ use borrow.Author.Needs.{needs}
 use Rattle.card.proofs.answering.answer.Statement.{statement}
 use Rattle.card.proofs.answering.answer.Tie as tie
 
-index-requires : tie.Need-index-requires
-index-requires c κs = search needs
-
-slice-aggregate-effect-of : tie.Need-slice-aggregate-effect-of
-slice-aggregate-effect-of c = search needs
-
-effect-of-requires : tie.Need-effect-of-requires
-effect-of-requires c κs = search needs
-
-keep-requires : tie.Need-keep-requires
-keep-requires c κs = search needs
-
-hold-requires : tie.Need-hold-requires
-hold-requires c κs = search needs
-
-say-requires : tie.Need-say-requires
-say-requires c κs = search needs
-
-enum-known-refusal : tie.Need-enum-known-refusal
-enum-known-refusal c = search needs
-
-enum-known-n : tie.Need-enum-known-n
-enum-known-n c = search needs
-
-same-length : tie.Need-same-length
-same-length c = search needs
-
-same-length-2 : tie.Need-same-length-2
-same-length-2 c = search needs
-
 returns : tie.Need-returns
 returns c =
     let s = c .before .before .before .before .before in
@@ -45,12 +15,6 @@ returns c =
     let e = k .before .before in
     let a = e .before .before .before .before .before .before in
     absurd (said-always (a .args .card) (e .effect-of .result) (a .args .values .now) (a .args .out .now) (a .pre .2) _ (s .say .ensures) (c .before .refusal .given .1))
-
-same-length-3 : tie.Need-same-length-3
-same-length-3 c = search needs
-
-same-length-4 : tie.Need-same-length-4
-same-length-4 c = search needs
 
 returns-2 : tie.Need-returns-2
 returns-2 c =
@@ -63,20 +27,7 @@ returns-2 c =
     ∙ ap (λ (x : Effect). answered (turned (a .args .card) (a .args .card .pending) x) (a .args .values .now) (a .args .out .now)) (e .effect-of .ensures)
 
 pub answer-spec : {M : Type 1} → statement M
-answer-spec =
-    tie.close
-    (tie.spec
-    index-requires
-    slice-aggregate-effect-of
-    effect-of-requires
-    keep-requires
-    hold-requires
-    say-requires
-    enum-known-refusal
-    enum-known-n
-    same-length
-    same-length-2
-    returns
-    same-length-3
-    same-length-4
+answer-spec = tie.close (tie.spec
+    (λ c κs. search needs) (λ c. search needs) (λ c κs. search needs) (λ c κs. search needs) (λ c κs. search needs) (λ c κs. search needs)
+    (λ c. search needs) (λ c. search needs) (λ c. search needs) (λ c. search needs) returns (λ c. search needs) (λ c. search needs)
     returns-2)

@@ -6,21 +6,12 @@ use Rattle.card.proofs.Turns.{effect-unheard, effect-index}
 use Rattle.card.proofs.answering.effect_of.Statement.{statement}
 use Rattle.card.proofs.answering.effect_of.Tie as tie
 
-enum-known-parsed : tie.Need-enum-known-parsed
-enum-known-parsed c = search needs
-
-enum-told : tie.Need-enum-told
-enum-told c = search needs
-
 returns : tie.Need-returns
 returns c =
     let s = c .before .before .before in
     let a = s .args in
     effect-unheard (a .bench .now) (a .maker .now) (a .setup) (a .offer) (a .values .now)
     ∙ ap (effectOf (a .bench .now) (a .maker .now) (a .setup) (a .offer) (a .values .now)) (sym (c .enum-told .given .1))
-
-act-requires : tie.Need-act-requires
-act-requires c κs = search needs
 
 returns-2 : tie.Need-returns-2
 returns-2 c =
@@ -33,4 +24,4 @@ returns-2 c =
     ∙ ap (effectOf (a .bench .now) (a .maker .now) (a .setup) (a .offer) (a .values .now)) (sym (m .1))
 
 pub effect-of-spec : {M : Type 1} → statement M
-effect-of-spec = tie.close (tie.spec enum-known-parsed enum-told returns act-requires returns-2)
+effect-of-spec = tie.close (tie.spec (λ c. search needs) (λ c. search needs) returns (λ c κs. search needs) returns-2)

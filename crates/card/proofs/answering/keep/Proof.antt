@@ -10,27 +10,9 @@ use borrow.Author.Needs.{needs}
 use Rattle.card.proofs.answering.keep.Statement.{statement}
 use Rattle.card.proofs.answering.keep.Tie as tie
 
-enum-known-store : tie.Need-enum-known-store
-enum-known-store c = search needs
-
-enum-told : tie.Need-enum-told
-enum-told c = search needs
-
 returns : tie.Need-returns
 unfolding stored
 returns c = sym (rw (c .enum-told .given .1))
-
-cast-at : tie.Need-cast-at
-cast-at c = search needs
-
-mul-value : tie.Need-mul-value
-mul-value c = search needs
-
-slice-set-from-value : tie.Need-slice-set-from-value
-slice-set-from-value c = search needs
-
-same-length : tie.Need-same-length
-same-length c = search needs
 
 returns-2 : tie.Need-returns-2
 unfolding stored
@@ -48,15 +30,6 @@ returns-3 c =
     sym (set-out (s .args .values .now) (o .0 .0) (o .0 .1 .0) (c .if1 .left)) ∙ sym (rw (o .1))
 
 pub keep-spec : {M : Type 1} → statement M
-keep-spec =
-    tie.close
-    (tie.spec
-    enum-known-store
-    enum-told
-    returns
-    cast-at
-    mul-value
-    slice-set-from-value
-    same-length
-    returns-2
-    returns-3)
+keep-spec = tie.close (tie.spec
+    (λ c. search needs) (λ c. search needs) returns (λ c. search needs) (λ c. search needs) (λ c. search needs) (λ c. search needs)
+    returns-2 returns-3)

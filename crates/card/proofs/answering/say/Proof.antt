@@ -12,12 +12,6 @@ use borrow.Author.Needs.{needs}
 use Rattle.card.proofs.answering.say.Statement.{statement}
 use Rattle.card.proofs.answering.say.Tie as tie
 
-enum-known-said : tie.Need-enum-known-said
-enum-known-said c = search needs
-
-enum-told : tie.Need-enum-told
-enum-told c = search needs
-
 returns : tie.Need-returns
 returns c =
     let s = c .before .before .before in
@@ -27,12 +21,6 @@ returns c =
     ∙ sym (placed-call [] (a .at) o (fits-at [] (a .at) o (omega (arith, s .pre))))
     ∙ ap (λ (x : Said). placeCall (replyOf x) (a .at) o) (sym (c .enum-told .given .1))
 
-place-requires : tie.Need-place-requires
-place-requires c κs = search needs
-
-same-length : tie.Need-same-length
-same-length c = search needs
-
 returns-2 : tie.Need-returns-2
 returns-2 c =
     let p = c .before .before in
@@ -41,5 +29,4 @@ returns-2 c =
     p .place .ensures ∙ ap (λ (x : Said). placeCall (replyOf x) (a .at) (a .out .now)) (sym (k .said .given .1))
 
 pub say-spec : {M : Type 1} → statement M
-say-spec =
-    tie.close (tie.spec enum-known-said enum-told returns place-requires same-length returns-2)
+say-spec = tie.close (tie.spec (λ c. search needs) (λ c. search needs) returns (λ c κs. search needs) (λ c. search needs) returns-2)

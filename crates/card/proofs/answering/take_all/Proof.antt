@@ -47,15 +47,6 @@ abbrev μ-loop : tie.MeasureT-loop
 μ-loop bench maker values₀ words out₀ setup offer₀ chars₀ halt₀ places at₀ values out offer chars halt at =
     length words - halt .at
 
-to-close-requires : tie.Need-to-close-requires Inv-loop μ-loop
-to-close-requires c κs = search needs
-
-so-far-requires : tie.Need-so-far-requires Inv-loop μ-loop
-so-far-requires c κs = search needs
-
-index-requires : tie.Need-index-requires Inv-loop μ-loop
-index-requires c κs = search needs
-
 -- the first words are taken: what is played from there is what is played from the start
 module _ (t : tie.After-to-close Inv-loop μ-loop) where
   abbrev start : tie.Start Inv-loop μ-loop
@@ -140,12 +131,6 @@ slice-aggregate-effect-of c = omega arith
 slice-aggregate-closed : tie.Need-slice-aggregate-closed Inv-loop μ-loop
 slice-aggregate-closed c = sym (c .before .before .before .before .before .loop .inv .2)
 
-closed-requires : tie.Need-closed-requires Inv-loop μ-loop
-closed-requires c κs = search needs
-
-effect-of-requires : tie.Need-effect-of-requires Inv-loop μ-loop
-effect-of-requires c κs = search needs
-
 -- the effect of the message: the card before the word, and the word's turn as the code has it
 module _ (e : tie.After-effect-of Inv-loop μ-loop) where
   abbrev at-loop : tie.At-loop Inv-loop μ-loop
@@ -185,12 +170,6 @@ module _ (s : tie.After-say Inv-loop μ-loop) where
   abbrev out : List ℕ
   out = at-loop effect .loop .out
 
-enum-known-n : tie.Need-enum-known-n Inv-loop μ-loop
-enum-known-n c = search needs
-
-enum-told : tie.Need-enum-told Inv-loop μ-loop
-enum-told c = search needs
-
 module _ (k : tie.After-known-told Inv-loop μ-loop) where
   abbrev said : tie.After-say Inv-loop μ-loop
   said = k .before .before .before .before .before
@@ -210,9 +189,6 @@ module _ (c : tie.After-enum-told Inv-loop μ-loop) where
 
   unfit : Unplaced (bytes unsaid) (to unsaid) (out unsaid) (unsaid .say .last .1 .0)
   unfit = placed-refused (bytes unsaid) (to unsaid) (out unsaid) (numberOf (c .enum-told .given .0 .0)) _ (unsaid .say .ensures) (ap outcomeOf (c .enum-told .given .1))
-
-so-far-requires-2 : tie.Need-so-far-requires-2 Inv-loop μ-loop
-so-far-requires-2 c κs = search needs
 
 same-length : tie.Need-same-length Inv-loop μ-loop
 same-length c = at-loop (effect (unsaid (c .before))) .loop .inv .0 .values-long
@@ -237,16 +213,10 @@ add-at c =
     let l = at-loop (effect (said c)) in
     omega (arith, room c, l .loop .inv .0 .filling .long, start (begin l) .good .1 .1 .1 .1 .1 .0)
 
-keep-requires : tie.Need-keep-requires Inv-loop μ-loop
-keep-requires c κs = search needs
-
 add-to-close : tie.Need-add-to-close Inv-loop μ-loop
 add-to-close c =
     let e = effect (said (c .before .before .before .before .before)) in
     omega (arith, in-words e, start (begin (at-loop e)) .good .1 .1 .1 .1 .0)
-
-to-close-requires-2 : tie.Need-to-close-requires-2 Inv-loop μ-loop
-to-close-requires-2 c κs = search needs
 
 -- the message is answered, and the words behind it taken up to the next that closes one
 module _ (c : tie.After-to-close2 Inv-loop μ-loop) where
@@ -298,9 +268,6 @@ loop-again c =
       ten c,
     )
 
-so-far-requires-3 : tie.Need-so-far-requires-3 Inv-loop μ-loop
-so-far-requires-3 c κs = search needs
-
 same-length-3 : tie.Need-same-length-3 Inv-loop μ-loop
 same-length-3 c = c .before .before .before .loop .inv .0 .values-long
 
@@ -316,34 +283,8 @@ returns-3 c =
     (c .so-far3 .result) (c .so-far3 .ensures)
 
 pub take-all-spec : {M : Type 1} → statement M
-take-all-spec =
-    tie.close
-    (tie.spec
-    Inv-loop
-    μ-loop
-    to-close-requires
-    so-far-requires
-    returns
-    index-requires
-    loop-holds
-    slice-aggregate-effect-of
-    slice-aggregate-closed
-    closed-requires
-    effect-of-requires
-    say-requires
-    enum-known-n
-    enum-told
-    so-far-requires-2
-    same-length
-    same-length-2
-    returns-2
-    add-at
-    keep-requires
-    add-to-close
-    to-close-requires-2
-    loop-less
-    loop-again
-    so-far-requires-3
-    same-length-3
-    same-length-4
-    returns-3)
+take-all-spec = tie.close (tie.spec
+    Inv-loop μ-loop (λ c κs. search needs) (λ c κs. search needs) returns (λ c κs. search needs) loop-holds slice-aggregate-effect-of
+    slice-aggregate-closed (λ c κs. search needs) (λ c κs. search needs) say-requires (λ c. search needs) (λ c. search needs)
+    (λ c κs. search needs) same-length same-length-2 returns-2 add-at (λ c κs. search needs) add-to-close (λ c κs. search needs) loop-less
+    loop-again (λ c κs. search needs) same-length-3 same-length-4 returns-3)

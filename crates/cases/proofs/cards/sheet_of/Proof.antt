@@ -44,19 +44,6 @@ returns : tie.Need-returns Inv-loop μ-loop
 returns c = omega arith
 
 pub sheet-of-spec : {M : Type 1} → statement M
-sheet-of-spec =
-    tie.close
-    (tie.spec
-    Inv-loop
-    μ-loop
-    loop-holds
-    mul-sheet
-    mul-sheet-2
-    index-1-sheet
-    index-2-sheet
-    mul-sheet-3
-    array-set-from-sheet
-    add-i
-    loop-less
-    loop-again
-    returns)
+sheet-of-spec = tie.close (tie.spec
+    Inv-loop μ-loop loop-holds mul-sheet mul-sheet-2 index-1-sheet index-2-sheet mul-sheet-3 array-set-from-sheet add-i loop-less
+    loop-again returns)

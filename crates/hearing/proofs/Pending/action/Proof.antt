@@ -4,12 +4,9 @@ use borrow.Author.Needs.{needs}
 use Rattle.hearing.proofs.Pending.action.Statement.{statement}
 use Rattle.hearing.proofs.Pending.action.Tie as tie
 
-action-at-requires : tie.Need-action-at-requires
-action-at-requires c κs = search needs
-
 returns : tie.Need-returns
 unfolding actionOf
 returns c = c .action-at .ensures
 
 pub action-spec : {M : Type 1} → statement M
-action-spec = tie.close (tie.spec action-at-requires returns)
+action-spec = tie.close (tie.spec (λ c κs. search needs) returns)

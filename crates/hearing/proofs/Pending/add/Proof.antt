@@ -6,22 +6,13 @@ use borrow.Author.Needs.{needs}
 use Rattle.hearing.proofs.Pending.add.Statement.{statement}
 use Rattle.hearing.proofs.Pending.add.Tie as tie
 
-new-requires : tie.Need-new-requires
-new-requires c κs = search needs
-
 returns : tie.Need-returns
 unfolding added
 returns c = c .new .ensures ∙ sym (rw (le-ltb _ _ (c .before .if1 .taken)))
-
-array-write-chars : tie.Need-array-write-chars
-array-write-chars c = search needs
-
-add-next : tie.Need-add-next
-add-next c = search needs
 
 returns-2 : tie.Need-returns-2
 unfolding added
 returns-2 c = rw (lt-ltb _ _ (c .before .if1 .left))
 
 pub add-spec : {M : Type 1} → statement M
-add-spec = tie.close (tie.spec new-requires returns array-write-chars add-next returns-2)
+add-spec = tie.close (tie.spec (λ c κs. search needs) returns (λ c. search needs) (λ c. search needs) returns-2)

@@ -26,19 +26,10 @@ slice-aggregate-plain c =
     let h : length (p .chars) ≡ 10 = search needs in
     sym (length-take-le (p .len) (p .chars) (omega arith))
 
-plain-requires : tie.Need-plain-requires
-plain-requires c κs = search needs
-
-part-zeros-start : tie.Need-part-zeros-start
-part-zeros-start c = search needs
-
 part-zeros-end : tie.Need-part-zeros-end
 part-zeros-end c =
     let h : length (c .before .before .before .before .before .args .self .chars) ≡ 10 = search needs in
     omega arith
-
-zeros-requires : tie.Need-zeros-requires
-zeros-requires c κs = search needs
 
 -- the part behind the open message is all that is behind
 was : (z : tie.After-zeros)
@@ -51,12 +42,6 @@ was z =
     (ap₂ (λ (x y : Bool). x && y) (z .before .before .before .plain .ensures)
     (z .zeros .ensures ∙ ap zeros (take-all (10 - p .len) (drop (p .len) (p .chars)) (omega (arith, length-drop (p .len) (p .chars))))))
 
-array-read-is-letter : tie.Need-array-read-is-letter
-array-read-is-letter c = search needs
-
-is-letter-requires : tie.Need-is-letter-requires
-is-letter-requires c κs = search needs
-
 returns-2 : tie.Need-returns-2
 unfolding soundPending
 returns-2 c =
@@ -64,16 +49,6 @@ returns-2 c =
     simp (le-leb _ _ (z .before .before .before .before .before .if1 .left), was z, c .is-letter .ensures)
 
 pub is-sound-spec : {M : Type 1} → statement M
-is-sound-spec =
-    tie.close
-    (tie.spec
-    returns
-    array-share-prefix-chars
-    slice-aggregate-plain
-    plain-requires
-    part-zeros-start
-    part-zeros-end
-    zeros-requires
-    array-read-is-letter
-    is-letter-requires
-    returns-2)
+is-sound-spec = tie.close (tie.spec
+    returns array-share-prefix-chars slice-aggregate-plain (λ c κs. search needs) (λ c. search needs) part-zeros-end (λ c κs. search needs)
+    (λ c. search needs) (λ c κs. search needs) returns-2)

@@ -57,20 +57,6 @@ returns c =
     (refl, copy-ends 0 (a .bytes .now) (a .out .now) (a .at) (l .loop .out) (l .loop .k) (l .loop .inv) (l .before .pre) (c .loop-test .left))
 
 pub copy-spec : {M : Type 1} → statement M
-copy-spec =
-    tie.close
-    (tie.spec
-    Inv-loop
-    μ-loop
-    loop-holds
-    shared-slice-read-out
-    cast-out
-    add-out
-    mul-out
-    slice-write-out
-    add-k
-    loop-less
-    loop-again
-    add-result
-    same-length
-    returns)
+copy-spec = tie.close (tie.spec
+    Inv-loop μ-loop loop-holds shared-slice-read-out cast-out add-out mul-out slice-write-out add-k loop-less loop-again add-result
+    same-length returns)

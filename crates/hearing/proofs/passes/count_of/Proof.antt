@@ -8,23 +8,13 @@ use borrow.Author.Needs.{needs}
 use Rattle.hearing.proofs.passes.count_of.Statement.{statement}
 use Rattle.hearing.proofs.passes.count_of.Tie as tie
 
-enum-known-message : tie.Need-enum-known-message
-enum-known-message c = search needs
-
-enum-told : tie.Need-enum-told
-enum-told c = search needs
-
 returns : tie.Need-returns
 unfolding worth
 returns c = rw (c .enum-told .given .1)
-
-spelled-len-requires : tie.Need-spelled-len-requires
-spelled-len-requires c κs = search needs
 
 returns-2 : tie.Need-returns-2
 unfolding worth
 returns-2 c = c .spelled-len .ensures ∙ sym (ap (λ (m : Parsed). length (worth m)) (c .before .before .message .given .1) ∙ travelling-length _)
 
 pub count-of-spec : {M : Type 1} → statement M
-count-of-spec =
-    tie.close (tie.spec enum-known-message enum-told returns spelled-len-requires returns-2)
+count-of-spec = tie.close (tie.spec (λ c. search needs) (λ c. search needs) returns (λ c κs. search needs) returns-2)

@@ -82,18 +82,5 @@ returns-2 c =
     writing-ends (words l) (out₀ l) (l .loop .out) (l .loop .at) (l .loop .i) (l .loop .inv) (normal-over (words l) (l .loop .i) (omega (arith, at-is k, c .if1 .taken)))
 
 pub fill-spec : {M : Type 1} → statement M
-fill-spec =
-    tie.close
-    (tie.spec
-    Inv-loop
-    μ-loop
-    loop-holds
-    next-closed-requires
-    put-requires
-    add-i
-    loop-less
-    loop-again
-    same-length
-    returns
-    same-length-2
-    returns-2)
+fill-spec = tie.close (tie.spec
+    Inv-loop μ-loop loop-holds next-closed-requires put-requires add-i loop-less loop-again same-length returns same-length-2 returns-2)

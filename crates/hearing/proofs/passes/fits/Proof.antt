@@ -14,11 +14,8 @@ returns c =
     let a = c .before .before .args in
     sym (le-leb (length (normal (a .words .now))) (a .room) (omega (arith, normal-short (a .words .now), c .if1 .taken)))
 
-measure-requires : tie.Need-measure-requires
-measure-requires c κs = search needs
-
 returns-2 : tie.Need-returns-2
 returns-2 c = c .measure .ensures
 
 pub fits-spec : {M : Type 1} → statement M
-fits-spec = tie.close (tie.spec returns measure-requires returns-2)
+fits-spec = tie.close (tie.spec returns (λ c κs. search needs) returns-2)

@@ -88,19 +88,6 @@ returns-3 c =
     measure-ends (words l) (room l) (l .loop .n) (l .loop .from) (l .loop .inv) (normal-over (words l) (l .loop .from) (omega (arith, at-is k, c .if1 .taken)))
 
 pub measure-spec : {M : Type 1} → statement M
-measure-spec =
-    tie.close
-    (tie.spec
-    Inv-loop
-    μ-loop
-    loop-holds
-    next-closed-requires
-    count-of-requires
-    sub-if2
-    returns
-    add-n
-    add-from
-    loop-less
-    loop-again
-    returns-2
+measure-spec = tie.close (tie.spec
+    Inv-loop μ-loop loop-holds next-closed-requires count-of-requires sub-if2 returns add-n add-from loop-less loop-again returns-2
     returns-3)

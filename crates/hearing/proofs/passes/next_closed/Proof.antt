@@ -13,9 +13,6 @@ use borrow.Author.Needs.{needs}
 use Rattle.hearing.proofs.passes.next_closed.Statement.{statement}
 use Rattle.hearing.proofs.passes.next_closed.Tie as tie
 
-to-close-requires : tie.Need-to-close-requires
-to-close-requires c κs = search needs
-
 -- there are ten places
 slice-aggregate-closed : tie.Need-slice-aggregate-closed
 unfolding none
@@ -23,9 +20,6 @@ slice-aggregate-closed c =
     let t = c .before in
     let a = t .before .before .before .args in
     sym (ap length (t .to-close .ensures .1) ∙ reached-long (a .words .now) none (a .from) refl)
-
-closed-requires : tie.Need-closed-requires
-closed-requires c κs = search needs
 
 returns : tie.Need-returns
 unfolding none openOf nextClosed
@@ -36,5 +30,4 @@ returns c =
     (ap (λ (s : Halt). s .at) (t .to-close .ensures .0))
 
 pub next-closed-spec : {M : Type 1} → statement M
-next-closed-spec =
-    tie.close (tie.spec to-close-requires slice-aggregate-closed closed-requires returns)
+next-closed-spec = tie.close (tie.spec (λ c κs. search needs) slice-aggregate-closed (λ c κs. search needs) returns)

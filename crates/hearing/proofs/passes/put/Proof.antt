@@ -49,12 +49,6 @@ module _ (d : tie.After-spell) where
   part : take (d .spell .result .len) (d .spell .result .bytes) ≡ worth (start heard .args .message)
   part = line-part (d .spell .result) (spell (said heard)) (d .spell .ensures) ∙ its-words heard
 
-enum-known-message : tie.Need-enum-known-message
-enum-known-message c = search needs
-
-enum-told : tie.Need-enum-told
-enum-told c = search needs
-
 returns : tie.Need-returns
 unfolding worth
 returns c =
@@ -62,24 +56,12 @@ returns c =
     let n : worth (a .message) ≡ [] = ap worth (c .enum-told .given .1) in
     (omega (arith, ap length n), sym (ap (λ (l : List ℕ). placed l (a .at) (a .out .now)) n ∙ placed-nothing (a .at) (a .out .now)))
 
-kind-of-requires : tie.Need-kind-of-requires
-kind-of-requires c κs = search needs
-
-enum-known-c : tie.Need-enum-known-c
-enum-known-c c = search needs
-
 put-sign-requires : tie.Need-put-sign-requires
 put-sign-requires c κs =
     let a = c .before .before in
     let k = a .before .before in
     let h = k .before in
     (sym (k .kind-of .ensures) ∙ a .c .given .1, room (start h) (travelling (spell (said h))) (its-words h))
-
-enum-told-2 : tie.Need-enum-told-2
-enum-told-2 c = search needs
-
-spell-requires : tie.Need-spell-requires
-spell-requires c κs = search needs
 
 array-share-prefix-bytes : tie.Need-array-share-prefix-bytes
 array-share-prefix-bytes c = fit (c .before)
@@ -90,17 +72,11 @@ slice-aggregate-copy c = sym (length-take-le _ _ (fit (c .before .before)))
 copy-requires : tie.Need-copy-requires
 copy-requires c κs = let d = c .before .before .before in room (start (heard d)) _ (part d)
 
-same-length : tie.Need-same-length
-same-length c = search needs
-
 returns-2 : tie.Need-returns-2
 returns-2 c =
     let s = c .before .before in
     let h = s .before .before .before .before .before .before in
     copied (start h) (travelling (spell (said h))) (its-words h) _ _ (s .put-sign .ensures)
-
-same-length-2 : tie.Need-same-length-2
-same-length-2 c = search needs
 
 returns-3 : tie.Need-returns-3
 returns-3 c =
@@ -109,21 +85,7 @@ returns-3 c =
     copied (start (heard d)) _ (part d) _ _ (k .copy .ensures)
 
 pub put-spec : {M : Type 1} → statement M
-put-spec =
-    tie.close
-    (tie.spec
-    enum-known-message
-    enum-told
-    returns
-    kind-of-requires
-    enum-known-c
-    put-sign-requires
-    enum-told-2
-    spell-requires
-    array-share-prefix-bytes
-    slice-aggregate-copy
-    copy-requires
-    same-length
-    returns-2
-    same-length-2
+put-spec = tie.close (tie.spec
+    (λ c. search needs) (λ c. search needs) returns (λ c κs. search needs) (λ c. search needs) put-sign-requires (λ c. search needs)
+    (λ c κs. search needs) array-share-prefix-bytes slice-aggregate-copy copy-requires (λ c. search needs) returns-2 (λ c. search needs)
     returns-3)

@@ -30,20 +30,8 @@ two o =
     let s = o .before .before .before in
     o .with-two-digits .ensures ∙ ap travelling (sym (sign-two (s .args .m) (s .args .sign) (s .pre .0) (o .before .if1 .left)))
 
-add-with-one-digit : tie.Need-add-with-one-digit
-add-with-one-digit c = search needs
-
-with-one-digit-requires : tie.Need-with-one-digit-requires
-with-one-digit-requires c κs = search needs
-
-slice-aggregate-copy : tie.Need-slice-aggregate-copy
-slice-aggregate-copy c = search needs
-
 copy-requires : tie.Need-copy-requires
 copy-requires c κs = let o = c .before .before in room (o .before .before .before) (o .with-one-digit .result) (one o)
-
-same-length : tie.Need-same-length
-same-length c = search needs
 
 returns : tie.Need-returns
 returns c =
@@ -51,23 +39,8 @@ returns c =
     let o = k .before .before .before in
     copied (o .before .before .before) (o .with-one-digit .result) (one o) _ _ (k .copy .ensures)
 
-add-tens : tie.Need-add-tens
-add-tens c = search needs
-
-add-ones : tie.Need-add-ones
-add-ones c = search needs
-
-with-two-digits-requires : tie.Need-with-two-digits-requires
-with-two-digits-requires c κs = search needs
-
-slice-aggregate-copy-2 : tie.Need-slice-aggregate-copy-2
-slice-aggregate-copy-2 c = search needs
-
 copy-requires-2 : tie.Need-copy-requires-2
 copy-requires-2 c κs = let o = c .before .before in room (o .before .before .before) (o .with-two-digits .result) (two o)
-
-same-length-2 : tie.Need-same-length-2
-same-length-2 c = search needs
 
 returns-2 : tie.Need-returns-2
 returns-2 c =
@@ -76,19 +49,6 @@ returns-2 c =
     copied (o .before .before .before) (o .with-two-digits .result) (two o) _ _ (k .copy2 .ensures)
 
 pub put-sign-spec : {M : Type 1} → statement M
-put-sign-spec =
-    tie.close
-    (tie.spec
-    add-with-one-digit
-    with-one-digit-requires
-    slice-aggregate-copy
-    copy-requires
-    same-length
-    returns
-    add-tens
-    add-ones
-    with-two-digits-requires
-    slice-aggregate-copy-2
-    copy-requires-2
-    same-length-2
-    returns-2)
+put-sign-spec = tie.close (tie.spec
+    (λ c. search needs) (λ c κs. search needs) (λ c. search needs) copy-requires (λ c. search needs) returns (λ c. search needs)
+    (λ c. search needs) (λ c κs. search needs) (λ c. search needs) copy-requires-2 (λ c. search needs) returns-2)

@@ -9,18 +9,9 @@ returns : tie.Need-returns
 unfolding put
 returns c = simp (le-ltb _ _ (c .if1 .taken))
 
-with-parity-requires : tie.Need-with-parity-requires
-with-parity-requires c κs = search needs
-
-array-write-bytes : tie.Need-array-write-bytes
-array-write-bytes c = search needs
-
-add-next : tie.Need-add-next
-add-next c = search needs
-
 returns-2 : tie.Need-returns-2
 unfolding put
 returns-2 c = simp (lt-ltb _ _ (c .before .before .if1 .left), c .with-parity .ensures)
 
 pub put-spec : {M : Type 1} → statement M
-put-spec = tie.close (tie.spec returns with-parity-requires array-write-bytes add-next returns-2)
+put-spec = tie.close (tie.spec returns (λ c κs. search needs) (λ c. search needs) (λ c. search needs) returns-2)

@@ -47,15 +47,4 @@ returns c =
     sym (l .loop .inv .1 ∙ puts-done (l .loop .line) (l .before .before .args .characters .now) (l .loop .i) (c .loop-test .left))
 
 pub put-all-spec : {M : Type 1} → statement M
-put-all-spec =
-    tie.close
-    (tie.spec
-    Inv-loop
-    μ-loop
-    loop-holds
-    shared-slice-read-put
-    put-requires
-    add-i
-    loop-less
-    loop-again
-    returns)
+put-all-spec = tie.close (tie.spec Inv-loop μ-loop loop-holds shared-slice-read-put put-requires add-i loop-less loop-again returns)

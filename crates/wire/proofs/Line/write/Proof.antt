@@ -12,9 +12,6 @@ use Rattle.wire.proofs.Lines.{take-counted, bytes-fit}
 use Rattle.wire.proofs.Line.write.Statement.{statement}
 use Rattle.wire.proofs.Line.write.Tie as tie
 
-count-requires : tie.Need-count-requires
-count-requires c κs = search needs
-
 module _ (c : tie.After-count) where
   -- the line holds no more than its array
   fit : c .count .result ≤ length (c .before .before .before .args .self .bytes)
@@ -33,12 +30,6 @@ array-share-prefix-bytes c = fit c
 slice-aggregate-place : tie.Need-slice-aggregate-place
 slice-aggregate-place c = sym (length-take-le _ _ (fit (c .before)))
 
-place-requires : tie.Need-place-requires
-place-requires c κs = search needs
-
-same-length : tie.Need-same-length
-same-length c = search needs
-
 returns : tie.Need-returns
 returns c =
     let a = c .before .before .before .before .before in
@@ -46,6 +37,5 @@ returns c =
     c .before .before .place .ensures ∙ ap (λ (l : List ℕ). placeCall l 0 out) (part a) ∙ placed-writes _ out
 
 pub write-spec : {M : Type 1} → statement M
-write-spec =
-    tie.close
-    (tie.spec count-requires array-share-prefix-bytes slice-aggregate-place place-requires same-length returns)
+write-spec = tie.close (tie.spec
+    (λ c κs. search needs) array-share-prefix-bytes slice-aggregate-place (λ c κs. search needs) (λ c. search needs) returns)
