@@ -1,6 +1,7 @@
 pub mod Turns
 pub mod Sounds
 pub mod Steps
+pub mod Responses
 pub mod Runs
 pub mod Plays
 pub mod Said

@@ -3,30 +3,22 @@ use mathlib.Core.Path.{_≡_, refl, sym, ap, _∙_}
 use mathlib.Core.Bool.{Bool, true, false, not, _&&_}
 use mathlib.Core.List.{List, [], _∷_}
 use Prim.Native.Nat.{ℕ, _<_, _≤_}
-use native.Mathlib.Omega.{arith}
 use borrow.Author.Tests.{lt-ltb, le-ltb, ltb-true, ltb-false}
 use lib.Dec.{ltb}
 use lib.IntN.{ℤ}
 use lib.ListN.{length}
-use Rattle.refusal.specs.Refusal.{Outcome, refused, gave, outcomeOf}
-use Rattle.refusal.specs.Buffer.{laid}
-use Rattle.refusal.specs.Call.{Call, callOf, placeCall}
-use Rattle.refusal.specs.declared.Refusal.{Refusal}
-use Rattle.refusal.specs.declared.Written.{Written}
-use Rattle.refusal.specs.declared.Written.the-variants.{Wrote, Refused}
+use Rattle.refusal.specs.Refusal.{Outcome, refused, gave}
 use Rattle.refusal.specs.Check.{Check, first, decided}
 use Rattle.refusal.proofs.Logic.{and-left, and-right, by-test}
 use Rattle.refusal.proofs.Buffers.{laid-nothing}
-use Rattle.refusal.proofs.Calls.{writes-all, placed-writes}
 use Rattle.refusal.proofs.Checks.{refused-gave, first-holds, first-passes, first-none, append-refused, append-passed, by-first}
 use Rattle.wire.specs.Word.{validWords}
 use Rattle.reply.specs.Reply.{longestReply}
 use Rattle.sheet.specs.Sheet.{soundSheet}
 use Rattle.sheet.specs.Values.{soundValues}
 use Rattle.card.specs.declared.Card.{Card}
-use Rattle.act.specs.declared.Effect.{Effect}
-use Rattle.card.specs.Turn.{replyOf, withBoth, turned, turn, stored, play}
-use Rattle.card.proofs.Turns.{stays, reply-length}
+use Rattle.card.specs.Turn.{turn, stored, play}
+use Rattle.card.proofs.Turns.{stays}
 use Rattle.card.specs.Refusals.{soundCard, soundOffer, cardChecks, roomCheck, stepChecks}
 use Rattle.card.specs.Calls.{After, kept, answered, stepCall, ended, runCall}
 
@@ -161,22 +153,3 @@ module _ (c : Card) (bench maker values : List ℤ) (ws out : List ℕ) where
 pub quiet-answered : (c : Card) (values : List ℤ) (out : List ℕ) → record { card = c; outcome = gave 0; values = values; buffer = out } ≡ answered (stays c) values out
 unfolding stored
 quiet-answered c values out = λ j. record { card = c; outcome = gave 0; values = values; buffer = sym (laid-nothing out) j }
-
-module _ (c : Card) (e : Effect) (values : List ℤ) (out : List ℕ) (h : longestReply ≤ length out) where
-  -- there is room for what is said
-  said-whole : {s : Call} → s ≡ placeCall (replyOf (e .said)) 0 out → s ≡ record { outcome = gave (length (replyOf (e .said))); buffer = laid (replyOf (e .said)) out }
-  said-whole p =
-      let n = reply-length (e .said) in
-      p ∙ placed-writes (replyOf (e .said)) out ∙ writes-all (replyOf (e .said)) out [] first-none (omega arith)
-
-  pub said-always : {r : Written} {out′ : List ℕ} (f : Refusal) → callOf r out′ ≡ placeCall (replyOf (e .said)) 0 out → r ≡ Refused f → ⊥
-  said-always f p q = refused-gave (sym (ap outcomeOf q) ∙ ap (λ (s : Call). s .outcome) (said-whole p))
-
-  pub answered-is : (c′ : Card) {r : Written} (v′ : List ℤ) (out′ : List ℕ) (n : ℕ) → c′ ≡ withBoth c (c .pending) (e .offer) → v′ ≡ stored values (e .store)
-      → callOf r out′ ≡ placeCall (replyOf (e .said)) 0 out → r ≡ Wrote n → record { card = c′; outcome = gave n; values = v′; buffer = out′ } ≡ answered (turned c (c .pending) e) values out
-  unfolding turned
-  answered-is c′ v′ out′ n ec ev p q =
-      let w = said-whole p in
-      let o : gave n ≡ gave (length (replyOf (e .said))) = sym (ap outcomeOf q) ∙ ap (λ (s : Call). s .outcome) w in
-      let b = ap (λ (s : Call). s .buffer) w in
-      λ j. record { card = ec j; outcome = o j; values = ev j; buffer = b j }

@@ -1,3 +1,4 @@
 pub mod Turn
 pub mod Refusals
 pub mod Calls
+pub mod Inner
