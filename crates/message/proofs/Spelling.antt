@@ -156,19 +156,21 @@ spelled-line m l₀ l₁ l₂ l₃ l₄ l₅ e₀ e₁ e₂ e₃ e₄ e₅ =
     ∙ ap (λ (l : Line). puts l ((a ++ (m .identifier ∷ b)) ++ (star ∷ []))) (e₁ ∙ ap (λ (l : Line). put l (m .letter)) e₀)
     ∙ puts-empty (spell m) (spell-length m)
 
--- five characters more, where there is room for them
-pub puts-five : (l : Line) (a b c d e : ℕ) → l .len ≤ 6
-    → puts l (a ∷ b ∷ c ∷ d ∷ e ∷ [])
-    ≡ record { bytes = set (set (set (set (set (l .bytes) (l .len) (withParity a)) (l .len + 1) (withParity b)) (l .len + 1 + 1) (withParity c)) (l .len + 1 + 1 + 1) (withParity d)) (l .len + 1 + 1 + 1 + 1) (withParity e); len = l .len + 1 + 1 + 1 + 1 + 1 }
+-- five characters more, where there is room for them, as the bytes v to z
+pub puts-five : (l : Line) (a b c d e : ℕ) {v w x y z : ℕ} → v ≡ withParity a → w ≡ withParity b → x ≡ withParity c → y ≡ withParity d → z ≡ withParity e → l .len ≤ 6
+    → record { bytes = set (set (set (set (set (l .bytes) (l .len) v) (l .len + 1) w) (l .len + 1 + 1) x) (l .len + 1 + 1 + 1) y) (l .len + 1 + 1 + 1 + 1) z; len = l .len + 1 + 1 + 1 + 1 + 1 }
+    ≡ puts l (a ∷ b ∷ c ∷ d ∷ e ∷ [])
 unfolding puts put
-puts-five l a b c d e h =
-    rw (
-      lt-ltb (l .len) longestMessage (omega arith),
-      lt-ltb (l .len + 1) longestMessage (omega arith),
-      lt-ltb (l .len + 1 + 1) longestMessage (omega arith),
-      lt-ltb (l .len + 1 + 1 + 1) longestMessage (omega arith),
-      lt-ltb (l .len + 1 + 1 + 1 + 1) longestMessage (omega arith),
-    )
+puts-five l a b c d e pv pw px py pz h =
+    let n = l .len in
+    (λ j. record { bytes = set (set (set (set (set (l .bytes) n (pv j)) (n + 1) (pw j)) (n + 1 + 1) (px j)) (n + 1 + 1 + 1) (py j)) (n + 1 + 1 + 1 + 1) (pz j); len = n + 1 + 1 + 1 + 1 + 1 })
+    ∙ sym (rw (
+      lt-ltb n longestMessage (omega arith),
+      lt-ltb (n + 1) longestMessage (omega arith),
+      lt-ltb (n + 1 + 1) longestMessage (omega arith),
+      lt-ltb (n + 1 + 1 + 1) longestMessage (omega arith),
+      lt-ltb (n + 1 + 1 + 1 + 1) longestMessage (omega arith),
+    ))
 
 -- ---- the call
 

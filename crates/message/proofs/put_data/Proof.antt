@@ -1,6 +1,6 @@
 -- `message::put_data` meets its contract: with room for five, five characters put are five bytes set; without, they are put one after
 -- the other. Assumes nothing.
-use mathlib.Core.Path.{_≡_, sym, ap, _∙_}
+use mathlib.Core.Path.{_≡_, ap, _∙_}
 use lib.ListN.{length, getD}
 use Rattle.wire.specs.Line.{puts}
 use Rattle.number.specs.Data.{spellData}
@@ -12,7 +12,7 @@ use Rattle.message.proofs.put_data.Statement.{statement}
 use Rattle.message.proofs.put_data.Tie as tie
 
 returns : tie.Need-returns
-returns c = cc
+returns c = c .put-all .ensures ∙ ap (puts (c .before .before .before .before .args .line)) (c .before .before .before .write-data .ensures)
 
 returns-2 : tie.Need-returns-2
 returns-2 c =
@@ -23,10 +23,11 @@ returns-2 c =
     let e = w₁ .before .before in
     let a = e .before .before .args in
     let ds = e .before .write-data .result in
-    let is : ds ≡ spellData (a .x) = cc in
+    let is : ds ≡ spellData (a .x) = e .before .write-data .ensures in
     let five : length ds ≡ 5 = ap length is ∙ data-length (a .x) in
-    rw (c .with-parity5 .ensures, w₄ .with-parity4 .ensures, w₃ .with-parity3 .ensures, w₂ .with-parity2 .ensures, w₁ .with-parity .ensures)
-    (sym (ap (puts (a .line)) (sym (five-are ds five ∙ is)) ∙ puts-five (a .line) (getD ds 0 0) (getD ds 1 0) (getD ds 2 0) (getD ds 3 0) (getD ds 4 0) (e .if1 .left)))
+    puts-five (a .line) (getD ds 0 0) (getD ds 1 0) (getD ds 2 0) (getD ds 3 0) (getD ds 4 0)
+    (w₁ .with-parity .ensures) (w₂ .with-parity2 .ensures) (w₃ .with-parity3 .ensures) (w₄ .with-parity4 .ensures) (c .with-parity5 .ensures) (e .if1 .left)
+    ∙ ap (puts (a .line)) (five-are ds five ∙ is)
 
 pub put-data-spec : {M : Type 1} → statement M
 put-data-spec = tie.close (tie.spec
