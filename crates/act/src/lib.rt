@@ -3,7 +3,7 @@ ghost use mathlib.Core.Path.{_≡_};
 ghost use lib.IntN.{pos};
 ghost use lib.ListN.{getD};
 ghost use Rattle.number.specs.Data.{withDecimals};
-ghost use Rattle.sheet.specs.Values.{entryAt};
+ghost use Rattle.sheet.specs.Inner.{entryAt};
 ghost use Rattle.act.specs.Act.{silent, answerTo, says, accepts, shownBy, declines, query, moves, up, down, offers, setTo, decimalsOf, store, serve, isFor, respond};
 use message::Body;
 use message::Message;

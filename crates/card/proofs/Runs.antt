@@ -15,7 +15,8 @@ use Rattle.refusal.specs.Buffer.{laid, placed}
 use Rattle.refusal.proofs.Buffers.{Filling, fill-begins, fill-goes-on, fill-laid}
 use Rattle.message.specs.declared.Parsed.the-variants.{Unheard}
 use Rattle.hearing.specs.declared.Pending.{Pending}
-use Rattle.hearing.specs.Hearing.{Reached, hear, toClose}
+use Rattle.hearing.specs.Hearing.{hear}
+use Rattle.hearing.specs.Inner.{Reached, toClose}
 use Rattle.hearing.proofs.Close.{reached, reached-in}
 use Rattle.card.specs.declared.Card.{Card}
 use Rattle.card.specs.declared.RunAnswer.the-variants.{Took}

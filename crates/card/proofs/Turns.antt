@@ -10,8 +10,7 @@ use Rattle.wire.specs.Word.{travelling}
 use Rattle.wire.proofs.Words.{travelling-length}
 use Rattle.sheet.specs.declared.Entry.{Entry}
 use Rattle.sheet.specs.Sheet.{soundSheet}
-use Rattle.sheet.specs.Lookup.{indexOf}
-use Rattle.sheet.specs.Values.{entryAt}
+use Rattle.sheet.specs.Inner.{entryAt, indexOf}
 use Rattle.sheet.proofs.Marks.{index-entry}
 use Rattle.reply.specs.declared.Answer.{Answer}
 use Rattle.reply.specs.Reply.{longestReply, spellAnswer}

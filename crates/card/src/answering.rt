@@ -6,7 +6,7 @@ ghost use Prim.Native.Nat.{_≤_};
 ghost use Rattle.refusal.specs.Call.{callOf, placeCall};
 ghost use Rattle.reply.specs.Reply.{longestReply};
 ghost use Rattle.sheet.specs.Sheet.{soundSheet};
-ghost use Rattle.sheet.specs.Lookup.{indexOf};
+ghost use Rattle.sheet.specs.Inner.{indexOf};
 ghost use Rattle.card.specs.Turn.{replyOf, effectOf, turned, stored, play};
 ghost use Rattle.card.specs.Inner.{responds};
 ghost use Rattle.card.specs.Calls.{stepAfter, answered, runAfter, ended};

@@ -25,9 +25,9 @@ use Rattle.hearing.specs.declared.Pending.{Pending}
 use Rattle.hearing.specs.declared.Action.{Action}
 use Rattle.hearing.specs.declared.Action.the-variants.{Ignore, Open, Add, Close, Drop}
 use Rattle.hearing.specs.declared.passes.Closing.{Closing}
-use Rattle.hearing.specs.Hearing.{most, none, added, openOf, actionOf, perform, hear, before, heardFrom, heard, toClose}
+use Rattle.hearing.specs.Hearing.{most, none, added, openOf, actionOf, perform, hear, before, heardFrom, heard}
 use Rattle.hearing.specs.Normal.{wordsOf, normal}
-use Rattle.hearing.specs.Inner.{nextClosed, worth}
+use Rattle.hearing.specs.Inner.{toClose, nextClosed, worth}
 use Rattle.hearing.proofs.Close.{reached, reached-in, reached-hears}
 
 -- the normal form of what is still to come

@@ -1,5 +1,5 @@
 -- Hearing: what one word does to the open message, and the messages heard in a list of words.
-use mathlib.Core.Bool.{Bool, true, false, cond}
+use mathlib.Core.Bool.{cond}
 use mathlib.Core.List.{List, [], _∷_}
 use Prim.Native.Nat.{ℕ, _+_}
 use lib.Dec.{ltb, eqb}
@@ -16,8 +16,6 @@ use Rattle.hearing.specs.declared.Pending.{Pending}
 use Rattle.hearing.specs.declared.Action.{Action}
 use Rattle.hearing.specs.declared.Action.the-variants.{Ignore, Open, Add, Close, Drop}
 use Rattle.hearing.specs.declared.Hearing.{Hearing}
-use Rattle.hearing.specs.declared.Next.{Next}
-use Rattle.hearing.specs.declared.Halt.{Halt}
 
 -- document 01: "A message holds at most 10 characters before `*`"
 abbrev pub most : ℕ
@@ -75,40 +73,6 @@ heardFrom p (w ∷ ws) = before (hear p w .message) (heardFrom (hear p w .pendin
 unfoldable pub openAfter : Pending → List ℕ → Pending
 openAfter p [] = p
 openAfter p (w ∷ ws) = openAfter (hear p w .pending) ws
-
--- `*` to an open message
-abbrev pub closes : Action → Bool
-closes Ignore = false
-closes (Open c) = false
-closes (Add c) = false
-closes Close = true
-closes Drop = false
-
--- the open message after a word; one that the word closes is left open
-unfoldable pub leftBy : Pending → Action → Pending
-leftBy p a = cond (closes a) p (perform p a .pending)
-
--- what the taking of a word answers: the count of open characters, and whether the word closes the message
-abbrev pub nextOf : Pending → ℕ → Next
-nextOf p w = record { len = leftBy p (actionOf p w) .len; closes = closes (actionOf p w) }
-
--- the characters that it leaves
-abbrev pub charsOf : Pending → ℕ → List ℕ
-charsOf p w = leftBy p (actionOf p w) .chars
-
--- where the words have come: the open message, and the place of the next word
-pub record Reached : Type 0 where
-  pub pending : Pending
-  pub at : ℕ
-
--- as the code answers it, the characters being in their place
-abbrev pub haltOf : Reached → Halt
-haltOf r = record { len = r .pending .len; at = r .at }
-
--- up to a word that closes the open message, or behind the last
-unfoldable pub toClose : Pending → List ℕ → ℕ → Reached
-toClose p [] at = record { pending = p; at = at }
-toClose p (w ∷ ws) at = cond (closes (actionOf p w)) (record { pending = p; at = at }) (toClose (hear p w .pending) ws (at + 1))
 
 -- document 01: "The messages heard in a recording are those heard when its words are taken in order, with none open before its
 -- first word, whatever their letter and address."

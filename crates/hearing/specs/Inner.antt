@@ -1,5 +1,6 @@
--- What only the private loops of this crate use: no public contract cites it.
-use mathlib.Core.Bool.{Bool, false, cond}
+-- What the loops use, and the two functions that runs and listings take words with, `take` and `to_close`. No call of document 01 and no
+-- claim cites any of it.
+use mathlib.Core.Bool.{Bool, true, false, cond}
 use mathlib.Core.List.{List, [], _∷_}
 use Prim.Native.Nat.{ℕ, _+_}
 use lib.Dec.{eqb}
@@ -13,8 +14,50 @@ use Rattle.message.specs.Message.{isLetter}
 use Rattle.message.specs.Prefix.{parse}
 use Rattle.message.specs.Spell.{spell}
 use Rattle.hearing.specs.declared.Pending.{Pending}
+use Rattle.hearing.specs.declared.Action.{Action}
+use Rattle.hearing.specs.declared.Action.the-variants.{Ignore, Open, Add, Close, Drop}
+use Rattle.hearing.specs.declared.Next.{Next}
+use Rattle.hearing.specs.declared.Halt.{Halt}
 use Rattle.hearing.specs.declared.passes.Closing.{Closing}
-use Rattle.hearing.specs.Hearing.{Reached, none, openOf, closes, actionOf, hear, toClose}
+use Rattle.hearing.specs.Hearing.{none, openOf, actionOf, perform, hear}
+
+-- ---- words taken in place
+
+-- `*` to an open message
+abbrev pub closes : Action → Bool
+closes Ignore = false
+closes (Open c) = false
+closes (Add c) = false
+closes Close = true
+closes Drop = false
+
+-- the open message after a word; one that the word closes is left open
+unfoldable pub leftBy : Pending → Action → Pending
+leftBy p a = cond (closes a) p (perform p a .pending)
+
+-- what the taking of a word answers: the count of open characters, and whether the word closes the message
+abbrev pub nextOf : Pending → ℕ → Next
+nextOf p w = record { len = leftBy p (actionOf p w) .len; closes = closes (actionOf p w) }
+
+-- the characters that it leaves
+abbrev pub charsOf : Pending → ℕ → List ℕ
+charsOf p w = leftBy p (actionOf p w) .chars
+
+-- where the words have come: the open message, and the place of the next word
+pub record Reached : Type 0 where
+  pub pending : Pending
+  pub at : ℕ
+
+-- as the code answers it, the characters being in their place
+abbrev pub haltOf : Reached → Halt
+haltOf r = record { len = r .pending .len; at = r .at }
+
+-- up to a word that closes the open message, or behind the last
+unfoldable pub toClose : Pending → List ℕ → ℕ → Reached
+toClose p [] at = record { pending = p; at = at }
+toClose p (w ∷ ws) at = cond (closes (actionOf p w)) (record { pending = p; at = at }) (toClose (hear p w .pending) ws (at + 1))
+
+-- ---- the loops
 
 -- a letter in good parity
 unfoldable pub isOpening : Received → Bool

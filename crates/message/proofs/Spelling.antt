@@ -18,7 +18,7 @@ use Rattle.refusal.proofs.Calls.{writes-refused, writes-passed}
 use Rattle.refusal.specs.declared.Refusal.the-variants.{NotMessage}
 use Rattle.wire.specs.declared.Line.{Line}
 use Rattle.wire.specs.Word.{withParity, travelling}
-use Rattle.wire.specs.Line.{longestMessage, empty, put, puts, lineOf}
+use Rattle.wire.specs.Inner.{longestMessage, empty, put, puts, lineOf}
 use Rattle.wire.proofs.Lines.{puts-append, puts-empty}
 use Rattle.number.specs.declared.Decimal.{Decimal}
 use Rattle.number.specs.Data.{digit, spellData}

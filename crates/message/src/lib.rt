@@ -5,7 +5,7 @@ ghost use lib.ListN.{length};
 ghost use mathlib.Core.List.{[], _∷_};
 ghost use Rattle.refusal.specs.Call.{callOf};
 ghost use Rattle.wire.specs.Word.{travelling};
-ghost use Rattle.wire.specs.Line.{puts, lineOf};
+ghost use Rattle.wire.specs.Inner.{puts, lineOf};
 ghost use Rattle.message.specs.Message.{star, isLetter, isAddress, isIdentifier, fitsBody, isMessage};
 ghost use Rattle.number.specs.Data.{spellData, readData};
 ghost use Rattle.message.specs.Prefix.{Address, message, extend, extendBody, extendData, extendAll, finish, parse};

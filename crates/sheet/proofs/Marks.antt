@@ -15,9 +15,9 @@ use Rattle.number.specs.Number.{inRange}
 use Rattle.sheet.specs.declared.Entry.{Entry}
 use Rattle.sheet.specs.declared.Entry.the-variants.{Found, Missing}
 use Rattle.sheet.specs.Sheet.{at, soundRow, soundSheet}
-use Rattle.sheet.specs.Lookup.{codeIs, placeIn, hasRow, rowIn, rowOf, placeOf, placesFrom, indexOf, partAt}
-use Rattle.sheet.specs.Inner.{markedFrom, marked, markedRow}
-use Rattle.sheet.specs.Values.{wholeRow, entryOf, entryIn, entryBy, entryAt}
+use Rattle.sheet.specs.Lookup.{codeIs, placeIn, hasRow, rowIn, rowOf}
+use Rattle.sheet.specs.Inner.{wholeRow, entryBy, entryAt, placeOf, placesFrom, indexOf, partAt, markedFrom, marked, markedRow}
+use Rattle.sheet.specs.Values.{entryOf, entryIn}
 use Rattle.sheet.proofs.Rows.{place-here, place-later, place-none, stands}
 use Rattle.sheet.proofs.Sheets.{row-parts, bench-wins, maker-else, row-of-sound}
 use Rattle.sheet.proofs.Values.{entry-below}

@@ -1,10 +1,10 @@
 -- The row of an identifier in two sheets: its six numbers, and the part of the sheet where they stand.
 use mathlib.Core.Bool.{Bool, false, cond, _&&_}
 use mathlib.Core.List.{List, [], _∷_}
-use Prim.Native.Nat.{ℕ, zero, suc, _+_, _*_, _-_}
+use Prim.Native.Nat.{ℕ, _+_, _*_}
 use lib.Dec.{ltb, eqb}
 use lib.IntN.{ℤ, pos, negsuc}
-use lib.ListN.{length, take, drop}
+use lib.ListN.{length}
 use Rattle.sheet.specs.Sheet.{at, rows, soundSheet}
 
 -- ---- in one sheet
@@ -49,26 +49,6 @@ rowOf bench maker i = cond (hasRow bench i) (rowIn bench i) (rowIn maker i)
 -- document 01: "with no row, or either sheet unsound, it shows an empty part"
 unfoldable pub shown : List ℤ → List ℤ → ℕ → List ℤ
 shown bench maker i = cond (soundSheet bench && soundSheet maker) (rowOf bench maker i) []
-
--- ---- the same by an index: where each row starts in the two sheets, the maker's behind the bench's. `index` promises `indexOf`, and
--- `find_at` what stands at a place of it.
-
--- the place of an identifier's row, a row of the bench sheet before one of the maker's; behind both where there is none
-unfoldable pub placeOf : List ℤ → List ℤ → ℕ → ℕ
-placeOf bench maker i = cond (hasRow bench i) (placeIn bench i) (length bench + placeIn maker i)
-
--- the places of n character codes from i on
-unfoldable pub placesFrom : List ℤ → List ℤ → ℕ → ℕ → List ℕ
-placesFrom bench maker i zero = []
-placesFrom bench maker i (suc n) = placeOf bench maker i ∷ placesFrom bench maker (suc i) n
-
--- one place for each character code
-unfoldable pub indexOf : List ℤ → List ℤ → List ℕ
-indexOf bench maker = placesFrom bench maker 0 128
-
--- the six numbers from a place on
-unfoldable pub partAt : List ℤ → List ℤ → ℕ → List ℤ
-partAt bench maker k = cond (ltb k (length bench)) (take 6 (drop k bench)) (take 6 (drop (k - length bench) maker))
 
 -- ---- where the part lies: a block of memory and an offset in it, in bytes
 

@@ -1,13 +1,13 @@
 -- What a row allows, and which values are sound under two sheets.
 use mathlib.Core.Bool.{Bool, true, cond, not, _&&_}
 use mathlib.Core.List.{List, [], _∷_}
-use Prim.Native.Nat.{ℕ, suc, _+_}
+use Prim.Native.Nat.{ℕ, suc}
 use lib.Dec.{eqb}
-use lib.IntN.{ℤ, pos, natAbs}
-use lib.ListN.{length, getD}
+use lib.IntN.{ℤ, natAbs}
+use lib.ListN.{length}
 use Rattle.number.specs.Number.{inRange, isMultiple}
 use Rattle.sheet.specs.Sheet.{at, soundRow}
-use Rattle.sheet.specs.Lookup.{rowOf, partAt}
+use Rattle.sheet.specs.Lookup.{rowOf}
 use Rattle.sheet.specs.declared.Row.{Row}
 use Rattle.sheet.specs.declared.Entry.{Entry}
 use Rattle.sheet.specs.declared.Entry.the-variants.{Found, Missing}
@@ -25,18 +25,6 @@ entryOf r = cond (soundRow r) (Found (numbersOf r)) Missing
 -- the row of an identifier in two sheets, by value
 unfoldable pub entryIn : List ℤ → List ℤ → ℕ → Entry
 entryIn bench maker i = entryOf (rowOf bench maker i)
-
--- for `find_at`, which tests less: six numbers, of which access and decimals are in range
-unfoldable pub wholeRow : List ℤ → Bool
-wholeRow r = eqb (length r) 6 && inRange (pos 1) (at r 1) (pos 3) && inRange (pos 0) (at r 2) (pos 3)
-
--- a whole row as it is, with no further test
-unfoldable pub entryBy : List ℤ → Entry
-entryBy r = cond (wholeRow r) (Found (numbersOf r)) Missing
-
--- by an index of the sheets; behind it lies no row
-unfoldable pub entryAt : List ℤ → List ℤ → List ℕ → ℕ → Entry
-entryAt bench maker places i = entryBy (partAt bench maker (getD places i (length bench + length maker)))
 
 -- document 01: "access (1 read only, 2 read and write, 3 write only)"; all but "write only" can be read
 unfoldable pub isReadable : Row → Bool

@@ -5,9 +5,9 @@ ghost use mathlib.Core.Bool.{true};
 ghost use Prim.Native.Nat.{_+_, _≤_};
 ghost use lib.ListN.{length, getD, take, drop};
 ghost use Rattle.sheet.specs.Sheet.{at, rows, soundIdentifier, soundNumbers, soundRow, soundSheet};
-ghost use Rattle.sheet.specs.Lookup.{codeIs, placeIn, rowOf, shown, indexOf, partAt, from, rowLies, shownLies};
-ghost use Rattle.sheet.specs.Values.{numbersOf, wholeRow, entryOf, entryIn, entryAt, isReadable, isWritable, isReadWrite, fitsRow, fitsPlace, soundValues};
-ghost use Rattle.sheet.specs.Inner.{markedRow, marked, fitsOnce, fitsRows, seenRows};
+ghost use Rattle.sheet.specs.Lookup.{codeIs, placeIn, rowOf, shown, from, rowLies, shownLies};
+ghost use Rattle.sheet.specs.Values.{numbersOf, entryOf, entryIn, isReadable, isWritable, isReadWrite, fitsRow, fitsPlace, soundValues};
+ghost use Rattle.sheet.specs.Inner.{wholeRow, entryAt, indexOf, partAt, markedRow, marked, fitsOnce, fitsRows, seenRows};
 
 // Character codes, each of which may have a row and has a value.
 pub const CODES: usize = 128;

@@ -10,7 +10,7 @@ use lib.Seq.{drop-cons, set-at, append-snoc, take-append-seam}
 use Rattle.refusal.specs.Buffer.{laid}
 use Rattle.refusal.proofs.Buffers.{laid-length}
 use Rattle.wire.specs.Word.{withParity, travelling}
-use Rattle.wire.specs.Line.{longestMessage, empty, put, puts, lineOf, bytesOf}
+use Rattle.wire.specs.Inner.{longestMessage, empty, put, puts, lineOf, bytesOf}
 use Rattle.wire.specs.declared.Line.{Line}
 use Rattle.wire.proofs.Words.{travelling-append, travelling-length}
 

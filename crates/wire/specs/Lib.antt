@@ -1,4 +1,4 @@
 pub mod Text
 pub mod Word
 pub mod Bytes
-pub mod Line
+pub mod Inner

@@ -7,7 +7,7 @@ ghost use Rattle.refusal.specs.Buffer.{placed};
 ghost use Rattle.refusal.specs.Call.{callOf, writes, placeCall};
 ghost use Rattle.wire.specs.Word.{evenParity, withParity, received, validWords};
 ghost use Rattle.wire.specs.Bytes.{wordOf, longOf};
-ghost use Rattle.wire.specs.Line.{empty, put, puts, bytesOf};
+ghost use Rattle.wire.specs.Inner.{empty, put, puts, bytesOf};
 use refusal::Refusal;
 use refusal::Written;
 

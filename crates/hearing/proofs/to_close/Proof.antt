@@ -8,8 +8,7 @@ use borrow.Author.Needs.{needs}
 use lib.ListN.{length, drop}
 use Rattle.hearing.specs.declared.Pending.{Pending}
 use Rattle.hearing.specs.declared.Halt.{Halt}
-use Rattle.hearing.specs.Hearing.{Reached, haltOf, toClose}
-use Rattle.hearing.specs.Inner.{toEnd}
+use Rattle.hearing.specs.Inner.{Reached, haltOf, toClose, toEnd}
 use Rattle.hearing.proofs.Close.{at-end}
 use Rattle.hearing.proofs.Spans.{Skipped, skipped, opened, Ended, is-ended}
 use Rattle.hearing.proofs.to_close.Statement.{statement}

@@ -10,8 +10,8 @@ use lib.ListN.{length, getD, drop}
 use Rattle.wire.specs.declared.Received.the-variants.{Character}
 use Rattle.wire.specs.Word.{received}
 use Rattle.hearing.specs.declared.Pending.{Pending}
-use Rattle.hearing.specs.Hearing.{Reached, most, none, haltOf}
-use Rattle.hearing.specs.Inner.{toEnd}
+use Rattle.hearing.specs.Hearing.{most, none}
+use Rattle.hearing.specs.Inner.{Reached, haltOf, toEnd}
 use Rattle.hearing.proofs.Spans.{end-last, end-nothing, end-star, end-full, end-more}
 use Rattle.hearing.proofs.to_end.Statement.{statement}
 use Rattle.hearing.proofs.to_end.Tie as tie

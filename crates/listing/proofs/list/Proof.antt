@@ -9,7 +9,8 @@ use borrow.Author.Needs.{needs}
 use borrow.Author.Tests.{not-true, not-false}
 use Rattle.hearing.specs.declared.Pending.{Pending}
 use Rattle.hearing.specs.declared.Next.{Next}
-use Rattle.hearing.specs.Hearing.{actionOf, hear, closes}
+use Rattle.hearing.specs.Hearing.{actionOf, hear}
+use Rattle.hearing.specs.Inner.{closes}
 use Rattle.hearing.proofs.Close.{left-closed, left-other, other-unheard}
 use Rattle.listing.specs.declared.Progress.{Progress}
 use Rattle.listing.specs.declared.Stop.the-variants.{Full}

@@ -1,7 +1,7 @@
 -- `message::put_address` meets its contract: one digit or two, by the definition's test. Assumes nothing.
 use mathlib.Core.Path.{sym, _∙_}
 use borrow.Author.Tests.{le-leb, lt-leb}
-use Rattle.wire.specs.Line.{put, puts}
+use Rattle.wire.specs.Inner.{put, puts}
 use Rattle.number.specs.Data.{digit}
 use Rattle.message.specs.Spell.{spellAddress}
 use borrow.Author.Needs.{needs}

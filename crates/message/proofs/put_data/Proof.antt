@@ -2,7 +2,7 @@
 -- the other. Assumes nothing.
 use mathlib.Core.Path.{_≡_, ap, _∙_}
 use lib.ListN.{length, getD}
-use Rattle.wire.specs.Line.{puts}
+use Rattle.wire.specs.Inner.{puts}
 use Rattle.number.specs.Data.{spellData}
 use Rattle.number.proofs.Digits.{data-length}
 use Rattle.message.proofs.Places.{five-are}

@@ -1,7 +1,7 @@
 -- `message::spell` meets its contract: the parts are put on an empty line one after the other. Assumes nothing.
 use mathlib.Core.Path.{_≡_, sym, _∙_}
 use Rattle.wire.specs.declared.Line.{Line}
-use Rattle.wire.specs.Line.{put, puts, lineOf}
+use Rattle.wire.specs.Inner.{put, puts, lineOf}
 use Rattle.message.specs.declared.Message.{Message}
 use Rattle.message.specs.Message.{star}
 use Rattle.message.specs.Spell.{spellKind, spellBody, spell}

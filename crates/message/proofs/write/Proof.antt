@@ -5,7 +5,7 @@ use mathlib.Core.List.{List, []}
 use Prim.Native.Nat.{ℕ}
 use Rattle.refusal.specs.Call.{writes}
 use Rattle.wire.specs.Word.{travelling}
-use Rattle.wire.specs.Line.{bytesOf}
+use Rattle.wire.specs.Inner.{bytesOf}
 use Rattle.wire.proofs.Lines.{line-bytes}
 use Rattle.message.specs.Spell.{spell}
 use Rattle.message.proofs.Spelling.{write-refused, write-served}

@@ -7,8 +7,8 @@ use Prim.Native.Nat.{_+_}
 use lib.IntN.{ℤ}
 use lib.ListN.{length, getD}
 use Rattle.sheet.specs.declared.Entry.the-variants.{Found, Missing}
-use Rattle.sheet.specs.Lookup.{partAt}
-use Rattle.sheet.specs.Values.{numbersOf, wholeRow, entryBy, entryAt}
+use Rattle.sheet.specs.Inner.{wholeRow, entryBy, entryAt, partAt}
+use Rattle.sheet.specs.Values.{numbersOf}
 use Rattle.sheet.proofs.find_at.Statement.{statement}
 use Rattle.sheet.proofs.find_at.Tie as tie
 

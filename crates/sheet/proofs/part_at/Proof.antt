@@ -2,7 +2,7 @@
 use mathlib.Core.Path.{refl, sym, _∙_}
 use borrow.Author.Needs.{needs}
 use borrow.Author.Tests.{lt-ltb, le-ltb}
-use Rattle.sheet.specs.Lookup.{partAt}
+use Rattle.sheet.specs.Inner.{partAt}
 use Rattle.sheet.proofs.part_at.Statement.{statement}
 use Rattle.sheet.proofs.part_at.Tie as tie
 

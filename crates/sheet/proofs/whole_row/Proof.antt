@@ -7,7 +7,7 @@ use lib.IntN.{ℤ, pos}
 use Rattle.number.specs.Number.{inRange}
 use Rattle.number.proofs.Signed.{rd-is}
 use Rattle.sheet.specs.Sheet.{at}
-use Rattle.sheet.specs.Values.{wholeRow}
+use Rattle.sheet.specs.Inner.{wholeRow}
 use Rattle.sheet.proofs.whole_row.Statement.{statement}
 use Rattle.sheet.proofs.whole_row.Tie as tie
 

@@ -11,7 +11,8 @@ use lib.ListN.{length, getD, drop}
 use Rattle.message.specs.declared.Parsed.{Parsed}
 use Rattle.message.specs.Prefix.{parse}
 use Rattle.hearing.specs.declared.Halt.{Halt}
-use Rattle.hearing.specs.Hearing.{Reached, none, openOf, hear, toClose}
+use Rattle.hearing.specs.Hearing.{none, openOf, hear}
+use Rattle.hearing.specs.Inner.{Reached, toClose}
 use Rattle.hearing.proofs.Close.{reached-in, reached-hears, reached-long}
 use Rattle.act.specs.declared.Setup.{Setup}
 use Rattle.act.specs.declared.Offer.{Offer}

@@ -4,7 +4,7 @@ use borrow.Author.Needs.{needs}
 use native.Mathlib.Omega.{arith}
 use lib.ListN.{length}
 use lib.Seq.{length-take-le, take-all}
-use Rattle.wire.specs.Line.{bytesOf}
+use Rattle.wire.specs.Inner.{bytesOf}
 use Rattle.wire.proofs.Line.count.Statement.{statement}
 use Rattle.wire.proofs.Line.count.Tie as tie
 

@@ -1,6 +1,6 @@
 -- `wire::Line::new` meets its contract by its text. Assumes nothing.
 use mathlib.Core.Path.{refl}
-use Rattle.wire.specs.Line.{empty}
+use Rattle.wire.specs.Inner.{empty}
 use Rattle.wire.proofs.Line.new.Statement.{statement}
 use Rattle.wire.proofs.Line.new.Tie as tie
 

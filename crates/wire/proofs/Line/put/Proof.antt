@@ -1,7 +1,7 @@
 -- `wire::Line::put` meets its contract: each return by the test that led there. Assumes nothing.
 use borrow.Author.Needs.{needs}
 use borrow.Author.Tests.{lt-ltb, le-ltb}
-use Rattle.wire.specs.Line.{put}
+use Rattle.wire.specs.Inner.{put}
 use Rattle.wire.proofs.Line.put.Statement.{statement}
 use Rattle.wire.proofs.Line.put.Tie as tie
 

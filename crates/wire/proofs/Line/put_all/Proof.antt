@@ -4,7 +4,7 @@ use mathlib.Core.Path.{_≡_, refl, sym, ap, _∙_}
 use Prim.Native.Nat.{_≤_, _+_, _-_}
 use native.Mathlib.Omega.{arith}
 use lib.ListN.{length, drop}
-use Rattle.wire.specs.Line.{puts}
+use Rattle.wire.specs.Inner.{puts}
 use Rattle.wire.specs.declared.Line.{Line}
 use Rattle.wire.proofs.Lines.{puts-more, puts-done}
 use Rattle.wire.proofs.Line.put_all.Statement.{statement}

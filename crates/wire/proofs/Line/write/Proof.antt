@@ -7,7 +7,7 @@ use lib.ListN.{length, take}
 use lib.Seq.{length-take-le}
 use Rattle.refusal.specs.Call.{placeCall}
 use Rattle.refusal.proofs.Calls.{placed-writes}
-use Rattle.wire.specs.Line.{bytesOf}
+use Rattle.wire.specs.Inner.{bytesOf}
 use Rattle.wire.proofs.Lines.{take-counted, bytes-fit}
 use Rattle.wire.proofs.Line.write.Statement.{statement}
 use Rattle.wire.proofs.Line.write.Tie as tie

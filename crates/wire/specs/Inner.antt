@@ -1,4 +1,5 @@
--- A line of bytes as they travel, one character put on it after the other.
+-- A line of bytes as they travel, one character put on it after the other, which the writer works with. No call of document 01 and no claim
+-- cites any of it.
 use mathlib.Core.Bool.{cond}
 use mathlib.Core.List.{List, [], _∷_}
 use Prim.Native.Nat.{ℕ, _+_}
