@@ -1,7 +1,7 @@
 pub mod Turns
 pub mod Sounds
 pub mod Steps
-pub mod Responses
+pub mod Settled
 pub mod Runs
 pub mod Plays
 pub mod Said

@@ -3,12 +3,13 @@ ghost use mathlib.Core.Path.{_≡_};
 ghost use mathlib.Core.Bool.{true};
 ghost use lib.ListN.{length};
 ghost use Prim.Native.Nat.{_≤_};
+ghost use Rattle.refusal.specs.Refusal.{outcomeOf};
 ghost use Rattle.refusal.specs.Call.{callOf, placeCall};
 ghost use Rattle.reply.specs.Reply.{longestReply};
 ghost use Rattle.sheet.specs.Sheet.{soundSheet};
 ghost use Rattle.sheet.specs.Inner.{indexOf};
 ghost use Rattle.card.specs.Turn.{replyOf, effectOf, turned, stored, play};
-ghost use Rattle.card.specs.Inner.{responds};
+ghost use Rattle.card.specs.Inner.{settles};
 ghost use Rattle.card.specs.Calls.{stepAfter, answered, runAfter, ended};
 use crate::Card;
 use crate::Ran;
@@ -23,6 +24,7 @@ use act::Store;
 use hearing::Halt;
 use hearing::Pending;
 use message::Parsed;
+use refusal::Refusal;
 use refusal::Written;
 
 // What is said into the buffer from a place on; silence is nothing.
@@ -70,40 +72,18 @@ fn keep(values: &mut [i32], store: Store)
     }
 }
 
-// What a closed message has come to: the offer afterwards, the bytes of its reply, and whether they fit.
-struct Response {
-    offer: Offer,
-    bytes: usize,
-    fits: bool,
-}
-
-// A closed message: what it leads to is decided, then said from a place on and, where that fits, stored.
-fn respond<'a>(
-    setup: Setup,
-    offer: Offer,
-    bench: &'a [i32],
-    maker: &'a [i32],
-    places: &[usize],
-    values: &mut [i32],
-    parsed: Parsed,
-    out: &mut [u8],
-    at: usize,
-) -> Response
-    requires { ⌜ (soundSheet (now bench) ≡ true) × (soundSheet (now maker) ≡ true) × (now places ≡ indexOf (now bench) (now maker)) × (at ≤ length (now out)) ⌝ }
-    ensures { λ r. ⌜ record { offer = r .offer; bytes = r .bytes; fits = r .fits; values = now (values .exit); buffer = now (out .exit) } ≡ responds offer (now (values .entry)) at (now (out .entry)) (effectOf (now (bench .entry)) (now (maker .entry)) setup offer (now (values .entry)) parsed) ⌝ }
+// An effect: said from a place on and, where that fits, stored.
+fn settle(effect: Effect, values: &mut [i32], out: &mut [u8], at: usize) -> Written
+    requires { ⌜ at ≤ length (now out) ⌝ }
+    ensures { λ r. ⌜ record { outcome = outcomeOf r; values = now (values .exit); buffer = now (out .exit) } ≡ settles effect (now (values .entry)) at (now (out .entry)) ⌝ }
 {
-    let effect = effect_of(setup, offer, bench, maker, places, values, parsed);
     let said = effect.said;
-    let Written::Wrote(bytes) = say(said, out, at) else {
-        let bytes = 0;
-        let fits = false;
-        return Response { offer, bytes, fits };
+    let Written::Wrote(n) = say(said, out, at) else {
+        return Written::Refused(Refusal::RoomTooShort);
     };
     let store = effect.store;
     keep(values, store);
-    let offer = effect.offer;
-    let fits = true;
-    Response { offer, bytes, fits }
+    Written::Wrote(n)
 }
 
 // A card whose message was closed, and what that message leads to. There is room for any reply.
@@ -121,11 +101,19 @@ pub(crate) fn answer<'a>(
     let setup = card.setup;
     let held = card.offer;
     let places = sheet::index(bench, maker);
-    let response = respond(setup, held, bench, maker, &places, values, parsed, out, 0);
-    let offer = response.offer;
+    let effect = effect_of(setup, held, bench, maker, &places, values, parsed);
+    let offer = effect.offer;
     let card = card.hold(offer);
-    let answer = StepAnswer::Replied(response.bytes);
-    Stepped { card, answer }
+    match settle(effect, values, out, 0) {
+        Written::Refused(refusal) => {
+            let answer = StepAnswer::Refused(refusal);
+            Stepped { card, answer }
+        }
+        Written::Wrote(n) => {
+            let answer = StepAnswer::Replied(n);
+            Stepped { card, answer }
+        }
+    }
 }
 
 // Where a run has come.
@@ -173,12 +161,12 @@ pub(crate) fn take_all<'a>(
     let mut at = 0;
     while halt.at < words.len() {
         let parsed = hearing::closed(&chars, halt.len);
-        let response = respond(setup, offer, bench, maker, &places, values, parsed, out, at);
-        if !response.fits {
+        let effect = effect_of(setup, offer, bench, maker, &places, values, parsed);
+        let Written::Wrote(n) = settle(effect, values, out, at) else {
             return so_far(setup, offer, chars, halt, at);
-        }
-        at += response.bytes;
-        offer = response.offer;
+        };
+        at += n;
+        offer = effect.offer;
         chars = [0u8; hearing::MOST];
         halt = hearing::to_close(&mut chars, 0, words, halt.at + 1);
     }

@@ -5,9 +5,9 @@ use mathlib.Core.List.{List}
 use Prim.Native.Nat.{ℕ, _+_, _-_, _≤_, _<_}
 use native.Mathlib.Omega.{arith}
 use borrow.Author.Needs.{needs}
-use borrow.Author.Tests.{not-true, not-false}
 use lib.IntN.{ℤ}
 use lib.ListN.{length, getD, drop}
+use Rattle.refusal.specs.Refusal.{numberOf, outcomeOf}
 use Rattle.message.specs.declared.Parsed.{Parsed}
 use Rattle.message.specs.Prefix.{parse}
 use Rattle.hearing.specs.declared.Halt.{Halt}
@@ -16,16 +16,15 @@ use Rattle.hearing.specs.Inner.{Reached, toClose}
 use Rattle.hearing.proofs.Close.{reached-in, reached-hears, reached-long}
 use Rattle.act.specs.declared.Setup.{Setup}
 use Rattle.act.specs.declared.Offer.{Offer}
-use Rattle.act.specs.declared.Effect.{Effect}
 use Rattle.card.specs.declared.Card.{Card}
 use Rattle.card.specs.declared.Ran.{Ran}
 use Rattle.card.specs.declared.RunAnswer.the-variants.{Took}
 use Rattle.card.specs.Calls.{runAfter, ended}
 use Rattle.card.specs.Turn.{Turn, turned, turn, Played, stopped, play}
-use Rattle.card.specs.Inner.{Responded}
+use Rattle.card.specs.Inner.{Settled}
 use Rattle.card.proofs.Turns.{effects, turn-closes}
 use Rattle.card.proofs.Runs.{Carried, playedFrom, starts, begins, turned as turned-on, carried-reached, no-room, ends, over}
-use Rattle.card.proofs.Responses.{Done, Undone, fits-done, unfit-undone}
+use Rattle.card.proofs.Settled.{Done, Undone, gave-done, refused-undone}
 use Rattle.card.proofs.answering.take_all.Statement.{statement}
 use Rattle.card.proofs.answering.take_all.Tie as tie
 
@@ -131,113 +130,109 @@ module _ (l : tie.At-loop Inv-loop μ-loop) where
 slice-aggregate-closed : tie.Need-slice-aggregate-closed Inv-loop μ-loop
 slice-aggregate-closed c = sym (c .before .before .before .loop .inv .2)
 
-slice-aggregate-respond : tie.Need-slice-aggregate-respond Inv-loop μ-loop
-slice-aggregate-respond c = omega arith
+slice-aggregate-effect-of : tie.Need-slice-aggregate-effect-of Inv-loop μ-loop
+slice-aggregate-effect-of c = omega arith
 
-respond-requires : tie.Need-respond-requires Inv-loop μ-loop
-respond-requires c κs =
-    let l = c .before .before .before .before .before .before .before in
-    (search needs, search needs, search needs, omega (arith, l .loop .inv .0 .at-in, l .loop .inv .0 .filling .long))
-
--- the message is closed: the word's turn, and what it has come to
-module _ (r : tie.After-respond Inv-loop μ-loop) where
-  abbrev closed : tie.After-closed Inv-loop μ-loop
-  closed = r .before .before .before .before
-
+-- the effect of the closed message: the word's turn as the code has it
+module _ (e : tie.After-effect-of Inv-loop μ-loop) where
   abbrev at-loop : tie.At-loop Inv-loop μ-loop
-  at-loop = closed .before .before .before .before
-
-  abbrev effect : Effect
-  effect = effects (bench (begin at-loop)) (maker (begin at-loop)) (here at-loop) (at-loop .loop .values) (closed .closed .result)
+  at-loop = e .before .before .before .before .before .before .before
 
   abbrev leads : Turn
-  leads = turned (here at-loop) none effect
-
-  abbrev came : Responded
-  came =
-      record {
-        offer = r .respond .result .offer;
-        bytes = r .respond .result .bytes;
-        fits = r .respond .result .fits;
-        values = r .respond .last .1 .1 .1 .1 .1 .0;
-        buffer = r .respond .last .1 .1 .1 .1 .1 .1 .1 .0;
-      }
+  leads = turned (here at-loop) none (e .effect-of .result)
 
   in-words : at-loop .loop .halt .at < length (words (begin at-loop))
-  in-words = closed .before .before .if2 .taken
+  in-words = e .before .before .before .before .before .if2 .taken
 
   is-turn : leads ≡ turn (bench (begin at-loop)) (maker (begin at-loop)) (here at-loop) (at-loop .loop .values) (getD (words (begin at-loop)) (at-loop .loop .halt .at) 0)
   unfolding openOf
   is-turn =
       let t = begin at-loop in
       let v = at-loop .loop .values in
-      ap (λ (o : Parsed). turned (here at-loop) none (effects (bench t) (maker t) (here at-loop) v o)) (closed .closed .ensures)
+      ap (turned (here at-loop) none) (e .effect-of .ensures)
+      ∙ ap (λ (o : Parsed). turned (here at-loop) none (effects (bench t) (maker t) (here at-loop) v o)) (e .before .before .before .closed .ensures)
       ∙ sym (turn-closes (bench t) (maker t) (here at-loop) v (getD (words t) (at-loop .loop .halt .at) 0) _ (at-loop .loop .inv .1 in-words))
 
+settle-requires : tie.Need-settle-requires Inv-loop μ-loop
+settle-requires c κs =
+    let l = at-loop (c .before .before) in
+    omega (arith, l .loop .inv .0 .at-in, l .loop .inv .0 .filling .long)
+
+-- what it has come to
+module _ (s : tie.After-settle Inv-loop μ-loop) where
+  abbrev effect : tie.After-effect-of Inv-loop μ-loop
+  effect = s .before .before .before
+
+  abbrev loop : tie.At-loop Inv-loop μ-loop
+  loop = at-loop effect
+
+  abbrev came : Settled
+  came = record { outcome = outcomeOf (s .settle .result); values = s .settle .last .1 .0; buffer = s .settle .last .1 .1 .0 }
+
 -- there is no room for the reply
-module _ (c : tie.Then3 Inv-loop μ-loop) where
-  abbrev stopped-at : tie.After-respond Inv-loop μ-loop
-  stopped-at = c .before .before .before .before .before
+module _ (c : tie.After-enum-told Inv-loop μ-loop) where
+  abbrev unsettled : tie.After-settle Inv-loop μ-loop
+  unsettled = c .before .before .before .before .before
 
-  abbrev stopped-in : tie.At-loop Inv-loop μ-loop
-  stopped-in = at-loop stopped-at
-
-  undone : Undone (stopped-in .loop .offer) (stopped-in .loop .values) (stopped-in .loop .at) (stopped-in .loop .out) (effect stopped-at) (came stopped-at)
-  undone = unfit-undone _ _ _ _ _ (came stopped-at) (stopped-at .respond .ensures) (not-true _ (c .if3 .taken))
+  undone : Undone (effect unsettled .effect-of .result) (loop unsettled .loop .values) (loop unsettled .loop .at) (loop unsettled .loop .out) (came unsettled)
+  undone = refused-undone _ _ _ _ (came unsettled) (unsettled .settle .ensures) (numberOf (c .enum-told .given .0 .0)) (ap outcomeOf (c .enum-told .given .1))
 
 same-length : tie.Need-same-length Inv-loop μ-loop
-same-length c = ap length (undone (c .before) .kept) ∙ stopped-in (c .before) .loop .inv .0 .values-long
+same-length c = ap length (undone (c .before) .kept) ∙ loop (unsettled (c .before)) .loop .inv .0 .values-long
 
 same-length-2 : tie.Need-same-length-2 Inv-loop μ-loop
-same-length-2 c = ap length (undone (c .before) .unsaid .leaves) ∙ stopped-in (c .before) .loop .inv .0 .filling .long
+same-length-2 c = ap length (undone (c .before) .unsaid .leaves) ∙ loop (unsettled (c .before)) .loop .inv .0 .filling .long
 
 returns-2 : tie.Need-returns-2 Inv-loop μ-loop
 unfolding turned
 returns-2 c =
     let u = undone (c .before) in
-    let r = stopped-at (c .before) in
-    let l = at-loop r in
+    let e = effect (unsettled (c .before)) in
+    let l = at-loop e in
     let t = begin l in
     ap₂ (runAfter (c .so-far2 .result)) (u .kept) (u .unsaid .leaves)
     ∙ stops t (here l) (l .loop .values) (l .loop .out) (l .loop .at) (l .loop .halt .at) (l .loop .inv .0)
     (no-room (bench t) (maker t) (all t) (values₀ t) (out₀ t) (words t) (here l) (l .loop .values) (l .loop .out) (l .loop .at) (l .loop .halt .at) (l .loop .inv .0)
-    (leads r) (is-turn r) (in-words r) (omega (arith, u .unsaid .short, l .loop .inv .0 .filling .long)))
+    (leads e) (is-turn e) (in-words e) (omega (arith, u .unsaid .short, l .loop .inv .0 .filling .long)))
     (c .so-far2 .result) (c .so-far2 .ensures)
 
 -- the message is answered
-module _ (c : tie.Else3 Inv-loop μ-loop) where
-  abbrev answer : tie.After-respond Inv-loop μ-loop
-  answer = c .before .before .before .before .before
+module _ (k : tie.After-known-told Inv-loop μ-loop) where
+  abbrev settled : tie.After-settle Inv-loop μ-loop
+  settled = k .before .before .before .before .before .before
 
-  abbrev loop : tie.At-loop Inv-loop μ-loop
-  loop = at-loop answer
+  abbrev n : ℕ
+  n = k .before .n .given .0 .0
 
-  done : Done (loop .loop .offer) (loop .loop .values) (loop .loop .at) (loop .loop .out) (effect answer) (came answer)
-  done = fits-done _ _ _ _ _ (came answer) (answer .respond .ensures) (not-false _ (c .if3 .left))
+  done : Done (effect settled .effect-of .result) (loop settled .loop .values) (loop settled .loop .at) (loop settled .loop .out) (came settled) n
+  done = gave-done _ _ _ _ (came settled) (settled .settle .ensures) n (ap outcomeOf (k .before .n .given .1))
 
-  room : loop .loop .at + came answer .bytes ≤ length (loop .loop .out)
+  room : loop settled .loop .at + n ≤ length (loop settled .loop .out)
   room = omega (arith, done .said .count, done .said .room)
 
 add-at : tie.Need-add-at Inv-loop μ-loop
 add-at c =
-    let l = loop (c .before) in
-    omega (arith, room (c .before), l .loop .inv .0 .filling .long, start (begin l) .good .1 .1 .1 .1 .1 .0)
+    let l = loop (settled c) in
+    omega (arith, room c, l .loop .inv .0 .filling .long, start (begin l) .good .1 .1 .1 .1 .1 .0)
 
 add-to-close : tie.Need-add-to-close Inv-loop μ-loop
 add-to-close c =
-    let r = answer (c .before .before .before) in
-    omega (arith, in-words r, start (begin (at-loop r)) .good .1 .1 .1 .1 .0)
+    let e = effect (settled (c .before .before)) in
+    omega (arith, in-words e, start (begin (at-loop e)) .good .1 .1 .1 .1 .0)
 
 -- the words behind it are taken up to the next that closes a message
 module _ (c : tie.After-to-close2 Inv-loop μ-loop) where
-  abbrev answered : tie.Else3 Inv-loop μ-loop
-  answered = c .before .before .before .before
+  abbrev answered : tie.After-known-told Inv-loop μ-loop
+  answered = c .before .before .before
+
+  abbrev closed : tie.After-effect-of Inv-loop μ-loop
+  closed = effect (settled answered)
 
   abbrev text : List ℕ
-  text = words (begin (loop answered))
+  text = words (begin (at-loop closed))
 
   abbrev from : ℕ
-  from = loop answered .loop .halt .at + 1
+  from = at-loop closed .loop .halt .at + 1
 
   abbrev next : Reached
   next = reachedOf (c .to-close2 .last .0) (c .to-close2 .result)
@@ -251,29 +246,27 @@ module _ (c : tie.After-to-close2 Inv-loop μ-loop) where
   ten = ap length (c .to-close2 .ensures .1) ∙ reached-long text none from refl
 
   behind : from ≤ next .at
-  behind = subst (λ (r : Reached). from ≤ r .at) (sym is-next) (reached-in text none from (omega (arith, in-words (answer answered))) .0)
+  behind = subst (λ (r : Reached). from ≤ r .at) (sym is-next) (reached-in text none from (omega (arith, in-words closed)) .0)
 
 loop-less : tie.Need-loop-less Inv-loop μ-loop
-loop-less c = omega (arith, in-words (answer (answered c)), behind c)
+loop-less c = omega (arith, in-words (closed c), behind c)
 
 loop-again : tie.Need-loop-again Inv-loop μ-loop
 unfolding turned
 loop-again c =
     let k = answered c in
-    let r = answer k in
-    let l = loop k in
+    let e = closed c in
+    let l = at-loop e in
     let t = begin l in
     let i = l .loop .halt .at in
-    let v = came r .values in
-    let o = came r .buffer in
-    let n = came r .bytes in
+    let v = came (settled k) .values in
+    let o = came (settled k) .buffer in
     let d = done k in
     let turned-here =
     turned-on (bench t) (maker t) (all t) (values₀ t) (out₀ t) (words t) (here l) (l .loop .values) (l .loop .out) (l .loop .at) i (l .loop .inv .0)
-    (leads r) (is-turn r) (in-words r)
-    v o n (d .said .count) (omega (arith, room k, l .loop .inv .0 .filling .long)) (d .kept) (r .respond .kept .1 .1 .1 .1 .1 .0) (d .said .leaves) in (
-      subst (λ (x : Offer). Carried (bench t) (maker t) (all t) (values₀ t) (out₀ t) (words t) (cardOf (card₀ t .setup) x (next c)) v o (l .loop .at + n) (next c .at)) (sym (d .holds))
-      (carried-reached (bench t) (maker t) (all t) (values₀ t) (out₀ t) (words t) (leads r .card) v o (l .loop .at + n) (i + 1) turned-here (next c) (is-next c)),
+    (leads e) (is-turn e) (in-words e)
+    v o (n k) (d .said .count) (omega (arith, room k, l .loop .inv .0 .filling .long)) (d .kept) (settled k .settle .kept .1 .0) (d .said .leaves) in (
+      carried-reached (bench t) (maker t) (all t) (values₀ t) (out₀ t) (words t) (leads e .card) v o (l .loop .at + n k) (i + 1) turned-here (next c) (is-next c),
       subst (Closes (words t)) (sym (is-next c)) (reached-hears (words t) none (i + 1)),
       ten c,
     )
@@ -295,5 +288,6 @@ returns-3 c =
 pub take-all-spec : {M : Type 1} → statement M
 take-all-spec = tie.close (tie.spec
     Inv-loop μ-loop (λ c κs. search needs) (λ c κs. search needs) returns (λ c κs. search needs) loop-holds slice-aggregate-closed
-    (λ c κs. search needs) slice-aggregate-respond respond-requires (λ c κs. search needs) same-length same-length-2 returns-2 add-at
-    add-to-close (λ c κs. search needs) loop-less loop-again (λ c κs. search needs) same-length-3 same-length-4 returns-3)
+    (λ c κs. search needs) slice-aggregate-effect-of (λ c κs. search needs) settle-requires (λ c. search needs) (λ c. search needs)
+    (λ c κs. search needs) same-length same-length-2 returns-2 add-at add-to-close (λ c κs. search needs) loop-less loop-again
+    (λ c κs. search needs) same-length-3 same-length-4 returns-3)
