@@ -16,7 +16,7 @@ use Rattle.hearing.specs.declared.Pending.{Pending}
 use Rattle.hearing.specs.declared.Action.{Action}
 use Rattle.hearing.specs.declared.Action.the-variants.{Ignore, Open, Add, Close, Drop}
 use Rattle.hearing.specs.Hearing.{most, none, added, openOf, actionOf, perform, hear}
-use Rattle.hearing.specs.Inner.{Reached, closes, leftBy, toClose}
+use Rattle.hearing.specs.Inner.{charsOf, Reached, closes, leftBy, toClose}
 
 module _ (p : Pending) (ws : List ℕ) (i : ℕ) where
   -- the next word, and what it does
@@ -73,6 +73,9 @@ is-close (Add c) e = absurd (false≢true e)
 is-close Close e = refl
 is-close Drop e = absurd (false≢true e)
 
+pub closing-hears : (p : Pending) (w : ℕ) → closes (actionOf p w) ≡ true → hear p w ≡ record { pending = none; message = parse (openOf p) }
+closing-hears p w e = close-hears p w (is-close (actionOf p w) e)
+
 hear-long : (p : Pending) (w : ℕ) → length (p .chars) ≡ most → length (hear p w .pending .chars) ≡ most
 unfolding hear perform added none
 hear-long p w e = go (actionOf p w)
@@ -83,6 +86,11 @@ hear-long p w e = go (actionOf p w)
     go (Add c) = choice (λ (q : Pending). length (q .chars) ≡ most) (ltb (p .len) most) (λ t. length-set (p .chars) (p .len) c ∙ e) (λ t. refl)
     go Close = refl
     go Drop = refl
+
+-- whatever a word does, ten places stay ten
+pub left-long : (p : Pending) (w : ℕ) → length (p .chars) ≡ most → length (charsOf p w) ≡ most
+unfolding leftBy hear
+left-long p w e = choice (λ (q : Pending). length (q .chars) ≡ most) (closes (actionOf p w)) (λ t. e) (λ t. hear-long p w e)
 
 pub nil-cons : {x : ℕ} {xs : List ℕ} → [] ≡ x ∷ xs → ⊥
 nil-cons {x} {xs} e = let n : 0 ≡ length (x ∷ xs) = ap length e in omega arith

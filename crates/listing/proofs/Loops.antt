@@ -1,7 +1,7 @@
 -- What one word adds to the listing, and what the loop over a buffer carries from word to word, in tail style: what is still to
 -- come, behind what is done, is the whole. Assumes nothing.
 use mathlib.Core.Path.{_≡_, refl, sym, ap, ap₂, _∙_}
-use mathlib.Core.Bool.{true, false, false≢true}
+use mathlib.Core.Bool.{true, false}
 use mathlib.Core.List.{List, [], _∷_}
 use Prim.Native.Nat.{ℕ, suc, _+_, _-_, _/_, _<_, _≤_}
 use native.Mathlib.Nat.{add-zero, zero-add}
@@ -9,109 +9,44 @@ use native.Mathlib.Omega.{arith}
 use borrow.Author.Tests.{le-leb, lt-leb}
 use lib.ListN.{length, getD, drop, length-append, length-drop}
 use lib.Seq.{drop-cons}
-use Rattle.refusal.specs.Buffer.{fitsAt, placed}
-use Rattle.refusal.specs.Call.{Call, callOf, placeCall}
-use Rattle.refusal.specs.declared.Refusal.{Refusal}
-use Rattle.refusal.specs.declared.Written.{Written}
-use Rattle.refusal.specs.declared.Written.the-variants.{Refused, Wrote}
-use Rattle.refusal.proofs.Logic.{by-test}
 use Rattle.refusal.proofs.Buffers.{placed-nothing, Filling, fill-begins, fill-goes-on, fill-laid}
-use Rattle.refusal.proofs.Calls.{placed-call, unplaced-call, fits-at}
-use Rattle.refusal.proofs.Placing.{fits-is, unfit-is, wrote-fits, wrote-count, refused-unfit}
+use Rattle.refusal.proofs.Calls.{Placed, Unplaced}
 use Rattle.wire.specs.Bytes.{wordOf}
-use Rattle.message.specs.declared.Message.{Message}
 use Rattle.message.specs.declared.Parsed.{Parsed}
-use Rattle.message.specs.declared.Parsed.the-variants.{Heard, Unheard}
-use Rattle.hearing.specs.declared.Hearing.{Hearing}
-use Rattle.hearing.specs.Hearing.{hear}
+use Rattle.message.specs.Prefix.{parse}
+use Rattle.hearing.specs.Hearing.{none, openOf, actionOf, hear}
+use Rattle.hearing.specs.Inner.{closes}
+use Rattle.hearing.proofs.Close.{other-unheard, closing-hears}
 use Rattle.listing.specs.declared.Progress.{Progress}
 use Rattle.listing.specs.declared.Stop.{Stop}
 use Rattle.listing.specs.declared.Stop.the-variants.{Done, Bad, Full}
 use Rattle.listing.specs.declared.Listed.{Listed}
-use Rattle.listing.specs.declared.Advance.{Advance}
-use Rattle.listing.specs.Line.{line}
 use Rattle.listing.specs.Listing.{nextPosition, lineFor, countAfter, lineAt, after, Lines, stopped, behind, listed, answerOf, listCallOf, listCall}
-use Rattle.listing.specs.Inner.{advanced}
 
 -- ---- one word
 
--- what is to be shown of one word: the answer s, and the buffer out′ behind it
-abbrev pub AdvanceIs : Progress → ℕ → ℕ → List ℕ → Advance → List ℕ → Type 0
-AdvanceIs p w written out s out′ = (s ≡ advanced p w written out) × (out′ ≡ placeCall (lineAt p w) written out .buffer)
+module _ (p : Progress) (w : ℕ) where
+  -- a word that closes no message adds nothing
+  module _ (e : closes (actionOf (p .pending) w) ≡ false) where
+    pub other-after : record { pending = hear (p .pending) w .pending; at = nextPosition (p .at); count = p .count } ≡ after p w
+    unfolding after countAfter
+    other-after = sym (rw (other-unheard (p .pending) w e))
 
-module _ (p : Progress) (w written : ℕ) (out : List ℕ) where
-  advanced-fits : fitsAt (lineAt p w) written out ≡ true
-      → advanced p w written out ≡ record { progress = after p w; written = written + length (lineAt p w); fits = true }
-  unfolding advanced
-  advanced-fits e = rw e
+    pub other-adds : (written : ℕ) (out : List ℕ) → written ≤ length out → Placed (lineAt p w) written out out 0
+    unfolding lineAt lineFor
+    other-adds written out h =
+        rw (other-unheard (p .pending) w e) (record { room = omega arith; count = refl; leaves = sym (placed-nothing written out) })
 
-  advanced-full : fitsAt (lineAt p w) written out ≡ false → advanced p w written out ≡ record { progress = p; written = written; fits = false }
-  unfolding advanced
-  advanced-full e = rw e
+  -- one that does adds the line of what was heard
+  module _ (e : closes (actionOf (p .pending) w) ≡ true) (o : Parsed) (q : o ≡ parse (openOf (p .pending))) where
+    pub closing-after : (at′ n : ℕ) → at′ ≡ nextPosition (p .at) → n ≡ countAfter (p .count) o → record { pending = none; at = at′; count = n } ≡ after p w
+    unfolding after
+    closing-after at′ n ea en =
+        (λ j. record { pending = none; at = ea j; count = (en ∙ ap (countAfter (p .count)) q) j }) ∙ sym (rw (closing-hears (p .pending) w e))
 
--- the hearing h, as the code has it
-module _ (p : Progress) (w written : ℕ) (out : List ℕ) (h : Hearing) (e : h ≡ hear (p .pending) w) (at′ : ℕ) (en : at′ ≡ nextPosition (p .at)) where
-  went : (o : Parsed) (n : ℕ) → h .message ≡ o → n ≡ countAfter (p .count) o → record { pending = h .pending; at = at′; count = n } ≡ after p w
-  unfolding after
-  went o n q k =
-      ap (λ (x : ℕ). record { pending = h .pending; at = x; count = n }) en
-      ∙ ap (λ (x : ℕ). record { pending = h .pending; at = nextPosition (p .at); count = x }) (k ∙ sym (ap (countAfter (p .count)) q))
-      ∙ ap (λ (x : Hearing). record { pending = x .pending; at = nextPosition (p .at); count = countAfter (p .count) (x .message) }) e
-
-  its-line : (o : Parsed) → h .message ≡ o → lineAt p w ≡ lineFor (p .at) o
-  unfolding lineAt
-  its-line o q = ap (λ (x : Hearing). lineFor (p .at) (x .message)) (sym e) ∙ ap (lineFor (p .at)) q
-
-  pub advance-unheard : h .message ≡ Unheard → written ≤ length out
-      → AdvanceIs p w written out (record { progress = record { pending = h .pending; at = at′; count = p .count }; written = written; fits = true }) out
-  unfolding countAfter lineFor
-  advance-unheard q r =
-      let l : lineAt p w ≡ [] = its-line Unheard q in
-      let n : written + length (lineAt p w) ≡ written = omega (arith, ap length l) in
-      let f = fits-at (lineAt p w) written out (omega arith) in (
-        ap₂ (λ (x : Progress) (k : ℕ). record { progress = x; written = k; fits = true }) (went Unheard (p .count) q refl) (sym n) ∙ sym (advanced-fits p w written out f),
-        sym (ap (λ (c : Call). c .buffer) (placed-call (lineAt p w) written out f) ∙ ap (λ (xs : List ℕ). placed xs written out) l ∙ placed-nothing written out),
-      )
-
-  -- the message heard, and the answer r of the call that placed its line
-  module _ (m : Message) (q : h .message ≡ Heard m) (r : Written) (out′ : List ℕ) (er : callOf r out′ ≡ placeCall (line (p .at) m) written out) where
-    heard-line : line (p .at) m ≡ lineAt p w
-    unfolding lineFor
-    heard-line = sym (its-line (Heard m) q)
-
-    placing : callOf r out′ ≡ placeCall (lineAt p w) written out
-    placing = er ∙ ap (λ (l : List ℕ). placeCall l written out) heard-line
-
-    leaves : out′ ≡ placeCall (lineAt p w) written out .buffer
-    leaves = ap (λ (c : Call). c .buffer) placing
-
-    pub line-room : (k : ℕ) → r ≡ Wrote k → written + k ≤ length out
-    line-room k ek =
-        rw (wrote-count (lineAt p w) written out r out′ placing k ek) (fits-is (lineAt p w) written out (wrote-fits (lineAt p w) written out r out′ placing k ek))
-
-    pub advance-heard : (n k : ℕ) → n ≡ nextPosition (p .count) → r ≡ Wrote k
-        → AdvanceIs p w written out (record { progress = record { pending = h .pending; at = at′; count = n }; written = written + k; fits = true }) out′
-    unfolding countAfter
-    advance-heard n k en′ ek = (
-      ap₂ (λ (x : Progress) (j : ℕ). record { progress = x; written = written + j; fits = true }) (went (Heard m) n q en′) (wrote-count (lineAt p w) written out r out′ placing k ek)
-          ∙ sym (advanced-fits p w written out (wrote-fits (lineAt p w) written out r out′ placing k ek)),
-      leaves,
-    )
-
-    pub advance-full : (k : Refusal) → r ≡ Refused k → AdvanceIs p w written out (record { progress = p; written = written; fits = false }) out′
-    advance-full k ek = (sym (advanced-full p w written out (refused-unfit (lineAt p w) written out r out′ placing k ek)), leaves)
-
--- what the loop reads off an advance
-module _ (p : Progress) (w written : ℕ) (out : List ℕ) (s : Advance) (e : s ≡ advanced p w written out) where
-  advance-fits : s .fits ≡ true → fitsAt (lineAt p w) written out ≡ true
-  advance-fits t =
-      by-test (fitsAt (lineAt p w) written out) (λ u. u)
-      (λ u. absurd (false≢true (sym (ap (λ (x : Advance). x .fits) (e ∙ advanced-full p w written out u)) ∙ t)))
-
-  advance-no-room : s .fits ≡ false → fitsAt (lineAt p w) written out ≡ false
-  advance-no-room t =
-      by-test (fitsAt (lineAt p w) written out)
-      (λ u. absurd (false≢true (sym t ∙ ap (λ (x : Advance). x .fits) (e ∙ advanced-fits p w written out u)))) (λ u. u)
+    pub closing-line : lineFor (p .at) o ≡ lineAt p w
+    unfolding lineAt
+    closing-line = ap (lineFor (p .at)) q ∙ sym (rw (closing-hears (p .pending) w e))
 
 -- ---- the definition, by cases
 
@@ -214,33 +149,25 @@ module _ (p₀ : Progress) (bs out₀ out : List ℕ) (p : Progress) (written ta
     pub stops-bad : (r : Listed) → r ≡ record { progress = p; taken = taken; written = written; stop = Bad } → 256 < w → listCallOf r out ≡ listCall p₀ bs out₀
     stops-bad r er h = continue-stops Bad r er (here ∙ listed-bad p _ _ bytes-behind (length out₀ - written) w ew h)
 
-    -- and the advance s that it makes
-    module _ (ok : w ≤ 256) (s : Advance) (out′ : List ℕ) (es : AdvanceIs p w written out s out′) where
-      pub stops-full : (r : Listed) → r ≡ record { progress = p; taken = taken; written = written; stop = Full } → s .fits ≡ false → listCallOf r out′ ≡ listCall p₀ bs out₀
-      stops-full r er f =
-          let u = advance-no-room p w written out s (es .0) f in
-          let no = unfit-is (lineAt p w) written out u in
-          let same : out′ ≡ out = es .1 ∙ ap (λ (c : Call). c .buffer) (unplaced-call (lineAt p w) written out u) in
-          rw same
-          (continue-stops Full r er (here ∙ listed-full p _ _ bytes-behind (length out₀ - written) w ew ok (omega (arith, t .filling .long, t .room-in))))
+    -- and what its line leaves in the buffer
+    module _ (ok : w ≤ 256) (out′ : List ℕ) where
+      pub stops-full : Unplaced (lineAt p w) written out out′ → (r : Listed) → r ≡ record { progress = p; taken = taken; written = written; stop = Full } → listCallOf r out′ ≡ listCall p₀ bs out₀
+      stops-full u r er =
+          rw (u .leaves)
+          (continue-stops Full r er (here ∙ listed-full p _ _ bytes-behind (length out₀ - written) w ew ok (omega (arith, u .short, t .filling .long, t .room-in))))
 
-      pub continue-goes-on : s .fits ≡ true → Continues p₀ bs out₀ out′ (s .progress) (s .written) (taken + 1)
+      pub continue-goes-on : (n : ℕ) → Placed (lineAt p w) written out out′ n → (p′ : Progress) → p′ ≡ after p w → Continues p₀ bs out₀ out′ p′ (written + n) (taken + 1)
       unfolding behind
-      continue-goes-on f =
+      continue-goes-on n f p′ ep =
           let xs = lineAt p w in
-          let g = advance-fits p w written out s (es .0) f in
-          let fits : written + length xs ≤ length out = fits-is xs written out g in
+          let fits = f .room in
           let long : length out ≡ length out₀ = t .filling .long in
-          let st = es .0 ∙ advanced-fits p w written out g in
-          let sp : s .progress ≡ after p w = ap (λ (x : Advance). x .progress) st in
-          let sw : s .written ≡ written + length xs = ap (λ (x : Advance). x .written) st in
-          let so : out′ ≡ placed xs written out = es .1 ∙ ap (λ (c : Call). c .buffer) (placed-call xs written out g) in
           let left = length out₀ - (written + length xs) in
           let less : length out₀ - written - length xs ≡ left = omega arith in
           let next = listed (after p w) bytes-behind left in
           let now : rest ≡ behind xs next
           = here ∙ listed-more p _ _ bytes-behind (length out₀ - written) w ew ok (omega arith) ∙ ap (λ (k : ℕ). behind xs (listed (after p w) bytes-behind k)) less in
-          rw (sp, sw, so)
+          rw (ep, f .count, f .leaves)
           (record {
             words-in = omega arith;
             room-in = omega arith;

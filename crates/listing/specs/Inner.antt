@@ -1,14 +1,9 @@
 -- What only private functions say of themselves: no public contract cites it. A text is built from its last character to its first,
 -- at the end of an array: it is what stands from a place on.
 use mathlib.Core.Path.{_≡_}
-use mathlib.Core.Bool.{true, false, cond}
 use mathlib.Core.List.{List, _++_}
 use Prim.Native.Nat.{ℕ, _+_, _≤_}
 use lib.ListN.{length, drop}
-use Rattle.refusal.specs.Buffer.{fitsAt}
-use Rattle.listing.specs.declared.Progress.{Progress}
-use Rattle.listing.specs.declared.Advance.{Advance}
-use Rattle.listing.specs.Listing.{lineAt, after}
 
 -- the most characters that a line has: a position of twenty digits, and a message with data
 abbrev pub longestLine : ℕ
@@ -29,10 +24,3 @@ pub record Before (most : ℕ) (xs : List ℕ) (from : ℕ) (was : List ℕ) (r 
 pub record EndsWith (xs : List ℕ) (r : ℕ) (text : List ℕ) : Type 0 where
   pub begins : r ≤ length text
   pub stands : drop r text ≡ xs
-
--- one word, its line behind so many bytes of a buffer; without room for the line everything stays as it was
-unfoldable pub advanced : Progress → ℕ → ℕ → List ℕ → Advance
-advanced p w written out =
-    cond (fitsAt (lineAt p w) written out)
-    (record { progress = after p w; written = written + length (lineAt p w); fits = true })
-    (record { progress = p; written = written; fits = false })

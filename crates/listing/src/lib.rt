@@ -8,8 +8,8 @@ ghost use Rattle.wire.specs.Text.{chars};
 ghost use Rattle.wire.specs.Bytes.{wordOf};
 ghost use Rattle.message.specs.Spell.{spellAddress, kindOf};
 ghost use Rattle.listing.specs.Line.{decimal, kindAndData, line, lineCall};
-ghost use Rattle.listing.specs.Listing.{heading, start, lineAt, lastLine, listCallOf, listCall};
-ghost use Rattle.listing.specs.Inner.{longestLine, Room, Before, EndsWith, advanced};
+ghost use Rattle.listing.specs.Listing.{heading, start, lineFor, countAfter, lastLine, listCallOf, listCall};
+ghost use Rattle.listing.specs.Inner.{longestLine, Room, Before, EndsWith};
 use hearing::MOST;
 use hearing::Pending;
 use message::Body;
@@ -49,13 +49,6 @@ pub enum Ending {
     End(u64),
     Bad(u64),
     Odd,
-}
-
-// What one word has done.
-struct Advance {
-    progress: Progress,
-    written: usize,
-    fits: bool,
 }
 
 // The first line of every listing.
@@ -230,48 +223,25 @@ fn word_at(bytes: &[u8], i: usize) -> u16
     wire::word_of(bytes[at], bytes[behind])
 }
 
-// One word, its line behind what is written. A line that has no room leaves everything as it was.
-fn take_word(progress: Progress, word: u16, out: &mut [u8], written: usize) -> Advance
+// The line of a closed message behind what is written, where it was heard and the line fits.
+fn place_heard(at: u64, parsed: Parsed, out: &mut [u8], written: usize) -> Written
     requires { ⌜ written ≤ length (now out) ⌝ }
-    ensures answers { λ r. ⌜ r ≡ advanced progress word written (now (out .entry)) ⌝ }
-    ensures leaves { λ r. ⌜ now (out .exit) ≡ placeCall (lineAt progress word) written (now (out .entry)) .buffer ⌝ }
+    ensures { λ r. ⌜ callOf r (now (out .exit)) ≡ placeCall (lineFor at parsed) written (now (out .entry)) ⌝ }
 {
-    let before = progress.pending;
-    let at = progress.at;
-    let count = progress.count;
-    let heard = hearing::hear(before, word);
-    let pending = heard.pending;
-    let message = heard.message;
-    let next = std::num::wrapping_add_u64(at, 1);
-    let Parsed::Heard(m) = message else {
-        let progress = Progress {
-            pending,
-            at: next,
-            count,
-        };
-        return advance_of(progress, written, true);
+    let Parsed::Heard(message) = parsed else {
+        return Written::Wrote(0);
     };
-    let Written::Wrote(n) = place_line(at, m, out, written) else {
-        return advance_of(progress, written, false);
-    };
-    let end = written + n;
-    let more = std::num::wrapping_add_u64(count, 1);
-    let progress = Progress {
-        pending,
-        at: next,
-        count: more,
-    };
-    advance_of(progress, end, true)
+    place_line(at, message, out, written)
 }
 
-fn advance_of(progress: Progress, written: usize, fits: bool) -> Advance
-    ensures { λ r. ⌜ r ≡ record { progress = progress; written = written; fits = fits } ⌝ }
+// The count of messages behind a closed one.
+fn count_after(count: u64, parsed: Parsed) -> u64
+    ensures { λ r. ⌜ r ≡ countAfter count parsed ⌝ }
 {
-    Advance {
-        progress,
-        written,
-        fits,
-    }
+    let Parsed::Heard(_) = parsed else {
+        return count;
+    };
+    std::num::wrapping_add_u64(count, 1)
 }
 
 // The lines of a buffer of words, two bytes each, from the front of `out` on. Words are taken until fewer than two bytes are left,
@@ -293,35 +263,26 @@ pub fn list(progress: Progress, bytes: &[u8], out: &mut [u8]) -> Listed
         if 256 < word {
             return stopped(chars, len, at, count, taken, written, Stop::Bad);
         }
+        let behind = std::num::wrapping_add_u64(at, 1);
         let next = hearing::take(&mut chars, len, word);
         if !next.closes {
             len = next.len;
-            at = std::num::wrapping_add_u64(at, 1);
+            at = behind;
             taken += 1;
             continue;
         }
-        let advance = take_word(so_far(chars, len, at, count), word, out, written);
-        if !advance.fits {
+        let parsed = hearing::closed(&chars, len);
+        let Written::Wrote(n) = place_heard(at, parsed, out, written) else {
             return stopped(chars, len, at, count, taken, written, Stop::Full);
-        }
-        let after = advance.progress;
-        let open = after.pending;
-        chars = open.chars;
-        len = open.len;
-        at = after.at;
-        count = after.count;
-        written = advance.written;
+        };
+        chars = [0u8; MOST];
+        len = 0;
+        at = behind;
+        count = count_after(count, parsed);
+        written += n;
         taken += 1;
     }
     stopped(chars, len, at, count, taken, written, Stop::Done)
-}
-
-// How far the listing is, from its parts.
-fn so_far(chars: [u8; MOST], len: usize, at: u64, count: u64) -> Progress
-    ensures { λ r. ⌜ r ≡ record { pending = record { chars = chars; len = len }; at = at; count = count } ⌝ }
-{
-    let pending = Pending { chars, len };
-    Progress { pending, at, count }
 }
 
 // What the call has done, from its parts.
