@@ -22,7 +22,10 @@ use Rattle.abi.specs.Rows.{answerRow, readInto, lookupInto}
 -- ---- results
 
 -- what the machine reads back from the bits of an i64
-pub wide-ok : (z : ℤ) → mag z < 2 ^ 63 → toZ w64 (ofZ w64 z) ≡ z
+abbrev pub wide : ℤ → ℤ
+wide z = toZ w64 (ofZ w64 z)
+
+pub wide-ok : (z : ℤ) → mag z < 2 ^ 63 → wide z ≡ z
 wide-ok z h = toZ-ofZ w64 z (record { sfits = h })
 
 neg-fits : (m : ℕ) → m ≤ 16 → SFits w64 (negℤ (pos m))

@@ -1,8 +1,10 @@
 // The boundary for hosts: the calls as C functions over numbers and slices of numbers alone.
 // Each gives back minus the number of its refusal, or a count. A refused call changes nothing lent.
 ghost use mathlib.Core.Path.{_≡_};
-ghost use Prim.Native.Nat.{_≤_};
-ghost use lib.ListN.{length, set};
+ghost use mathlib.Core.List.{List};
+ghost use Prim.Native.Nat.{ℕ, _≤_};
+ghost use lib.IntN.{ℤ};
+ghost use lib.ListN.{length};
 ghost use Rattle.refusal.specs.Refusal.{outcomeOf, numberOf};
 ghost use Rattle.refusal.specs.Check.{first};
 ghost use Rattle.refusal.specs.Buffer.{laid};
@@ -11,12 +13,15 @@ ghost use Rattle.message.specs.Prefix.{message};
 ghost use Rattle.sheet.specs.Lookup.{shown};
 ghost use Rattle.reply.specs.Read.{readCall};
 ghost use Rattle.card.specs.Refusals.{cardChecks};
+ghost use Rattle.card.specs.Calls.{stepAfter, runAfter};
 ghost use Rattle.abi.specs.Result.{minusNumber, countResult, resultOf, filled, given, setOf, bodyOf, asked, writeAsked, lineAsked};
 ghost use Rattle.abi.specs.Rows.{answerRow, readInto, lookupInto};
-ghost use Rattle.abi.specs.Calls.{oneWord, kavStep, manyWords, shortRun, kavRun};
+ghost use Rattle.abi.specs.Calls.{oneWord, stepOn, kavStep, manyWords, runOn, shortRun, kavRun};
 use card::Card;
+use card::Ran;
 use card::RunAnswer;
 use card::StepAnswer;
+use card::Stepped;
 use message::Body;
 use message::Message;
 use message::Parsed;
@@ -84,25 +89,20 @@ fn set_of(letter: u8, address: u8, identifier: u8, number: i32, decimals: u32) -
 fn body_of(letter: u8, address: u8, identifier: u8, kind: u8, number: i32, decimals: u32) -> Parsed
     ensures { λ r. ⌜ r ≡ bodyOf letter address identifier kind number decimals ⌝ }
 {
-    if kind == b'?' {
-        if identifier == b'?' {
-            return heard(letter, address, identifier, Body::Status);
+    match kind {
+        b'?' => {
+            if identifier == b'?' {
+                heard(letter, address, identifier, Body::Status)
+            } else {
+                heard(letter, address, identifier, Body::Query)
+            }
         }
-        return heard(letter, address, identifier, Body::Query);
+        b'+' => heard(letter, address, identifier, Body::Up),
+        b'-' => heard(letter, address, identifier, Body::Down),
+        b'I' => heard(letter, address, identifier, Body::Store),
+        b'#' => set_of(letter, address, identifier, number, decimals),
+        _ => Parsed::Unheard,
     }
-    if kind == b'+' {
-        return heard(letter, address, identifier, Body::Up);
-    }
-    if kind == b'-' {
-        return heard(letter, address, identifier, Body::Down);
-    }
-    if kind == b'I' {
-        return heard(letter, address, identifier, Body::Store);
-    }
-    if kind == b'#' {
-        return set_of(letter, address, identifier, number, decimals);
-    }
-    Parsed::Unheard
 }
 
 fn asked(letter: u8, address: u32, identifier: u8, kind: u8, number: i32, decimals: u32) -> Parsed
@@ -235,6 +235,20 @@ pub extern "C" fn kav_lookup<'a>(
     6
 }
 
+// A word's answer as a result; the card is stored back when the word is served.
+fn stepped(step: Stepped, row: &mut [i32]) -> i64
+    ensures { λ r. ⌜ ((values : List ℤ) (out : List ℕ) → oneWord r (now (row .exit)) values out ≡ stepOn (now (row .entry)) (stepAfter step values out)) ⌝ }
+{
+    let answer = step.answer;
+    match answer {
+        StepAnswer::Refused(refusal) => minus_number(refusal),
+        StepAnswer::Replied(n) => {
+            row::store(step.card, row);
+            count_result(n)
+        }
+    }
+}
+
 // One word: the count of bytes replied, 0 for silence.
 #[no_mangle]
 pub extern "C" fn kav_step<'a>(
@@ -250,25 +264,27 @@ pub extern "C" fn kav_step<'a>(
     if !row::is_row(card) {
         return minus_number(Refusal::UnsoundCard);
     }
-    let stepped = card::step(row::card_of(card), bench, maker, values, word, out);
-    let answer = stepped.answer;
-    match answer {
-        StepAnswer::Refused(refusal) => minus_number(refusal),
-        StepAnswer::Replied(n) => {
-            let next = stepped.card;
-            row::store(next, card);
-            count_result(n)
-        }
-    }
+    stepped(
+        card::step(row::card_of(card), bench, maker, values, word, out),
+        card,
+    )
 }
 
-// Words taken and bytes written, into the first two counts.
-fn count(counts: &mut [u64], words: usize, bytes: usize)
+// A run's answer as a result; when the run is served, the card is stored back, and the words taken and bytes written are counted.
+fn ran(run: Ran, row: &mut [i32], counts: &mut [u64]) -> i64
     requires { ⌜ 2 ≤ length (now counts) ⌝ }
-    ensures { λ _. ⌜ now (counts .exit) ≡ set (set (now (counts .entry)) 0 words) 1 bytes ⌝ }
+    ensures { λ r. ⌜ ((values : List ℤ) (out : List ℕ) → manyWords r (now (row .exit)) values out (now (counts .exit)) ≡ runOn (now (row .entry)) (now (counts .entry)) (runAfter run values out)) ⌝ }
 {
-    counts[0] = words as u64;
-    counts[1] = bytes as u64;
+    let answer = run.answer;
+    match answer {
+        RunAnswer::Refused(refusal) => minus_number(refusal),
+        RunAnswer::Took { words, bytes } => {
+            row::store(run.card, row);
+            counts[0] = words as u64;
+            counts[1] = bytes as u64;
+            0
+        }
+    }
 }
 
 // Many words: 0, with the words taken and the bytes written in the counts.
@@ -291,17 +307,11 @@ pub extern "C" fn kav_run<'a>(
     if counts.len() < 2 {
         return short_run(held, bench, maker, values, words);
     }
-    let ran = card::run(held, bench, maker, values, words, out);
-    let answer = ran.answer;
-    match answer {
-        RunAnswer::Refused(refusal) => minus_number(refusal),
-        RunAnswer::Took { words, bytes } => {
-            let next = ran.card;
-            row::store(next, card);
-            count(counts, words, bytes);
-            0
-        }
-    }
+    ran(
+        card::run(held, bench, maker, values, words, out),
+        card,
+        counts,
+    )
 }
 
 // A run with no room for its counts: the numbers before 5, then 5.

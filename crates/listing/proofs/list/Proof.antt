@@ -122,9 +122,9 @@ loop-again c =
     let p : Progress = progressOf (t .take .last .0) (t .take .result .len) (t .before .before .wrapping-add-u64 .result) (l .loop .count) in
     let z : l .loop .written + 0 ≡ l .loop .written = omega arith in (
       subst (λ (n : ℕ). Continues (a .progress) (a .bytes .now) (a .out .now) (l .loop .out) p n (l .loop .taken + 1)) z
-      (continue-goes-on (a .progress) (a .bytes .now) (a .out .now) (l .loop .out) (here wa) (l .loop .written) (l .loop .taken) (l .loop .inv .0) (word wa) (wa .word-at .ensures) (wa .before .loop-test .taken)
-      (ok t) (l .loop .out) 0 (other-adds (here wa) (word wa) e (l .loop .written) (l .loop .out) (written-in t)) p
-      ((λ j. record { pending = left-open t f j; at = is-behind t j; count = l .loop .count }) ∙ other-after (here wa) (word wa) e)),
+          (continue-goes-on (a .progress) (a .bytes .now) (a .out .now) (l .loop .out) (here wa) (l .loop .written) (l .loop .taken) (l .loop .inv .0) (word wa) (wa .word-at .ensures) (wa .before .loop-test .taken)
+          (ok t) (l .loop .out) 0 (other-adds (here wa) (word wa) e (l .loop .written) (l .loop .out) (written-in t)) p
+          ((λ j. record { pending = left-open t f j; at = is-behind t j; count = l .loop .count }) ∙ other-after (here wa) (word wa) e)),
       ten t,
     )
 
@@ -220,7 +220,7 @@ loop-again-2 c =
     let l = loop t in
     let a = start wa .args in (
       continue-goes-on (a .progress) (a .bytes .now) (a .out .now) (l .loop .out) (here wa) (l .loop .written) (l .loop .taken) (l .loop .inv .0) (word wa) (wa .word-at .ensures) (in-words c)
-      (ok t) _ (n c) (fits c) _ (closing-after (here wa) (word wa) (closing h) (closed h .closed .result) (heard h) _ _ (is-behind t) (c .count-after .ensures)),
+          (ok t) _ (n c) (fits c) _ (closing-after (here wa) (word wa) (closing h) (closed h .closed .result) (heard h) _ _ (is-behind t) (c .count-after .ensures)),
       refl,
     )
 
