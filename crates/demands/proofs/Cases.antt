@@ -27,20 +27,20 @@ use Rattle.card.specs.Turn.{effectOf, turned, turn, stored, play}
 use Rattle.card.specs.Refusals.{soundSetup, soundCard, offerable, soundOffer, cardChecks}
 use Rattle.card.specs.Calls.{runCall}
 use Rattle.demands.specs.Terms.{Sound}
-use Rattle.demands.specs.Bench.{benchRows, benchValues, benchCard, Case, benchCases, moreCases, equalZ, took, answersAll, passes, allPass}
+use Rattle.demands.specs.Bench.{benchRows, benchValues, benchCard, Case, benchCases, moreCases, equalZ, took, answersAll, passes}
 
 -- what a table computes through
 computed : List Case → Bool
-unfolding ones onesIn every same laid first evenParity withParity received travelling validWords inRange isMultiple cutDown cut raised lowered digit isDigit digitOf fits codeOf fiveDigits spellData decode readNext readFrom readData isLetter isAddress isIdentifier extendIdentifier extendAddress extendData extendBody extend extendAll finish parse spellAddress none added openOf opening continuing actionOf perform hear plainChar plain zeros soundPending rows soundIdentifier soundNumbers soundRow soundRows soundSheet codeIs lookup.isFor rowAmong placeAmong rowIn placeIn hasRow rowOf numbersOf entryOf entryIn isReadable isWritable isReadWrite fitsRow fitsPlace soundFrom soundValues spellContent spellAnswer says accepts shownBy declines query moves up down offers setTo store serve isFor respond act effectOf turned turn stored play soundSetup soundCard offerable soundOffer cardChecks runCall benchRows benchValues benchCard equalZ took answersAll passes allPass
-computed xs = allPass xs
+unfolding ones onesIn every same laid first evenParity withParity received travelling validWords inRange isMultiple cutDown cut raised lowered digit isDigit digitOf fits codeOf fiveDigits spellData decode readNext readFrom readData isLetter isAddress isIdentifier extendIdentifier extendAddress extendData extendBody extend extendAll finish parse spellAddress none added openOf opening continuing actionOf perform hear plainChar plain zeros soundPending rows soundIdentifier soundNumbers soundRow soundRows soundSheet codeIs lookup.isFor rowAmong placeAmong rowIn placeIn hasRow rowOf numbersOf entryOf entryIn isReadable isWritable isReadWrite fitsRow fitsPlace soundFrom soundValues spellContent spellAnswer says accepts shownBy declines query moves up down offers setTo store serve isFor respond act effectOf turned turn stored play soundSetup soundCard offerable soundOffer cardChecks runCall benchRows benchValues benchCard equalZ took answersAll passes
+computed xs = every passes xs
 
 -- cases a to l
-pub bench : allPass benchCases ≡ true
+pub bench : every passes benchCases ≡ true
 unfolding computed benchCases
 bench = refl
 
 -- the second table
-pub more : allPass moreCases ≡ true
+pub more : every passes moreCases ≡ true
 unfolding computed moreCases
 more = refl
 

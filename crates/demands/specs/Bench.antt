@@ -1,5 +1,5 @@
 -- The bench cases of document 01 as tables: each case its exchanges, message by message, and the value of m before and after.
-use mathlib.Core.Bool.{Bool, true, false, _&&_}
+use mathlib.Core.Bool.{Bool, false, _&&_}
 use mathlib.Core.List.{List, [], _∷_}
 use Prim.Native.Nat.{ℕ}
 use Prim.Native.Char.{code}
@@ -105,7 +105,3 @@ answersAll c values (x ∷ xs) last =
 -- a case from its start
 unfoldable pub passes : Case → Bool
 passes x = answersAll benchCard (benchValues (x .first)) (x .exchanges) (benchValues (x .last))
-
-unfoldable pub allPass : List Case → Bool
-allPass [] = true
-allPass (x ∷ xs) = passes x && allPass xs
