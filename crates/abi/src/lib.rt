@@ -1,5 +1,5 @@
 // The boundary for hosts: the calls as C functions over numbers and slices of numbers alone.
-// Each gives back minus the number of its refusal, or a count. A refused call changes nothing lent.
+// Each gives back minus the number of its refusal, or a count (`kav_run`: 0). A refused call changes nothing lent.
 ghost use mathlib.Core.Path.{_≡_};
 ghost use mathlib.Core.List.{List};
 ghost use Prim.Native.Nat.{ℕ, _≤_};

@@ -1,6 +1,6 @@
 -- Demand 1: "Every call ends and does nothing undefined for any words, sheets, values or card state. A call that can't be served is
 -- refused by the numbers and in the order of document 01; it then changes neither the card, the values nor any buffer." That a call
--- ends and does nothing undefined is what the prover shows of every function; none has a precondition. The rest is said here.
+-- ends and does nothing undefined is what the prover shows of every function; no public one has a precondition. The rest is said here.
 use mathlib.Core.Path.{_≡_}
 use mathlib.Core.Logic.{_↔_}
 use mathlib.Core.Bool.{not}

@@ -44,7 +44,7 @@ pub record WriterHeard : Type 0 where
   pub heard-as-asked : (m : Message) (out : List ℕ) (n : ℕ) → writeCall m out .outcome ≡ gave n → heard (take n (writeCall m out .buffer)) ≡ m ∷ []
   pub none-open : (m : Message) (out : List ℕ) (n : ℕ) → writeCall m out .outcome ≡ gave n → openAfter none (take n (writeCall m out .buffer)) ≡ none
 
--- a single word's call that is served, with what is in its buffer afterwards
+-- a single word's call, with all that it leaves
 module _ (bench maker : List ℤ) (c : Card) (values : List ℤ) (w : ℕ) (out : List ℕ) where
   abbrev pub its : After ℕ
   its = stepCall c bench maker values w out

@@ -1,5 +1,5 @@
--- What the loops use, and the two functions that runs and listings take words with, `take` and `to_close`. No call of document 01 and no
--- claim cites any of it.
+-- Definitions for this crate's loops, and for `take` and `to_close`, by which runs, the normal form and the listing take words. No call of
+-- document 01 and no claim cites any of it.
 use mathlib.Core.Bool.{Bool, true, false, cond}
 use mathlib.Core.List.{List, [], _∷_}
 use Prim.Native.Nat.{ℕ, _+_}

@@ -91,7 +91,8 @@ const UDI1500: [[i32; 7]; 19] = [
     [109, 2, 1, 5, 0, 1000, 20], // `m` Input Filter Time Constant value
 ];
 
-// The first six numbers of a line, from the place `at` of the sheet on. A line has seven: a caller learns it here.
+// The first six numbers of a line, from the place `at` of the sheet on. The contract also says that a line has seven numbers, since
+// callers need that.
 fn put_row(sheet: &mut [i32], at: usize, line: [i32; 7])
     requires { ⌜ at + 6 ≤ length (now sheet) ⌝ }
     ensures { λ r. ⌜ (now (sheet .exit) ≡ paste (now (sheet .entry)) at line 6) × (length line ≡ 7) ⌝ }

@@ -97,7 +97,7 @@ fn pending_of(row: &[i32]) -> Pending
     Pending { chars, len }
 }
 
-// 0, 0, 0 is no offer. What no offer is lent as is one for identifier 0.
+// 0, 0, 0 is no offer. Any other numbers that are no offer stand for an offer for identifier 0.
 fn offer_of(mark: i32, identifier: i32, value: i32) -> Offer
     ensures { λ r. ⌜ r ≡ offerOf mark identifier value ⌝ }
 {

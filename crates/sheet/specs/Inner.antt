@@ -1,4 +1,4 @@
--- What private functions use, and the index of two sheets (`index`, `find_at`) that runs go by. No call of document 01 and no claim cites any
+-- What private functions use, and the index of two sheets (`index`, `find_at`) that the card goes by. No call of document 01 and no claim cites any
 -- of it.
 use mathlib.Core.Bool.{Bool, true, cond, not, _&&_, _||_}
 use mathlib.Core.List.{List, [], _∷_}

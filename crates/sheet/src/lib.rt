@@ -129,7 +129,7 @@ fn six<'a>(sheet: &'a [i32], start: usize) -> &'a [i32]
     &sheet[start..end]
 }
 
-// The row of an identifier, as the part of the sheet it stands in. No sheet is tested: a run has done so once.
+// The row of an identifier, as the part of the sheet it stands in. No sheet is tested here: `lookup` and `card::check` have done so before.
 pub fn find_row<'a>(bench: &'a [i32], maker: &'a [i32], identifier: u8) -> &'a [i32]
     ensures numbers { λ r. ⌜ now r ≡ rowOf (now (bench .entry)) (now (maker .entry)) identifier ⌝ }
     ensures lies { λ r. ⌜ r .ptr ≡ rowLies (bench .entry .ptr) (maker .entry .ptr) (now (bench .entry)) (now (maker .entry)) identifier ⌝ }
