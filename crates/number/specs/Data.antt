@@ -1,6 +1,6 @@
 -- Five digits of data: a number of four digits, and a code that gives the decimals and the sign.
 use mathlib.Core.Bool.{Bool, cond, _&&_}
-use mathlib.Core.List.{List, [], _∷_}
+use mathlib.Core.List.{List, [], _∷_, _++_}
 use Prim.Native.Nat.{ℕ, _+_, _-_, _*_, _/_, _%_}
 use lib.Dec.{ltb, leb}
 use lib.IntN.{ℤ, pos, negsuc, negℤ, natAbs}
@@ -71,3 +71,10 @@ readFrom x (c ∷ cs) = readFrom (readNext x c) cs
 -- all characters of the data
 unfoldable pub readData : List ℕ → Data
 readData cs = readFrom start cs
+
+-- ---- several numbers, one behind the other
+
+-- document 02: "five five-digit values"; five digits for each number, however many there are
+unfoldable pub spellAll : List Decimal → List ℕ
+spellAll [] = []
+spellAll (x ∷ xs) = spellData x ++ spellAll xs

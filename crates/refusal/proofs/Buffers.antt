@@ -7,7 +7,7 @@ use native.Mathlib.Numerals.{add-one}
 use native.Mathlib.Omega.{arith}
 use lib.Dec.{leb}
 use lib.ListN.{length, getD, take, drop, set, length-append, length-drop, drop-of-length-le, take-append-drop}
-use lib.Seq.{take-append-seam, drop-append-seam, take-at, drop-at, drop-drop, drop-cons, set-split, length-take-le}
+use lib.Seq.{take-append-seam, drop-append-seam, take-at, drop-at, drop-drop, drop-cons, set-split, sets, sets-eq, take-take, length-take-le}
 use Rattle.refusal.specs.Buffer.{laid, fitsAt, placed}
 
 module _ {A : Type 0} where
@@ -82,6 +82,26 @@ module _ {A : Type 0} where
           let back : drop (n + length ys) (placed xs at out) ≡ drop (at + length (xs ++ ys)) out
           = sym (drop-drop (length ys) n (placed xs at out)) ∙ ap (drop (length ys)) placed-behind ∙ drop-drop (length ys) n out ∙ ap (λ (k : ℕ). drop k out) m in
           ap₂ _++_ front back
+
+  -- one list before another that stands there
+  pub placed-ahead : (xs : List A) (at : ℕ) (ys out : List A) → at + length xs ≤ length out → placed xs at (placed ys (at + length xs) out) ≡ placed (xs ++ ys) at out
+  unfolding placed
+  placed-ahead xs at ys out h =
+      let n = at + length xs in
+      let behind = drop (n + length ys) out in
+      let same : placed ys n out ≡ take n out ++ (ys ++ behind) = append-assoc (take n out) ys behind in
+      let long : length (take n out) ≡ n = length-take-le n out h in
+      let front : take at (placed ys n out) ≡ take at out = sym (take-take at n (placed ys n out) (omega arith)) ∙ ap (take at) (ap (take n) same ∙ take-at (take n out) (ys ++ behind) n long) ∙ take-take at n out (omega arith) in
+      let back : drop n (placed ys n out) ≡ ys ++ behind = ap (drop n) same ∙ drop-at (take n out) (ys ++ behind) n long in
+      let m : n + length ys ≡ at + length (xs ++ ys) = add-assoc at (length xs) (length ys) ∙ ap (λ (k : ℕ). at + k) (sym (length-append xs ys)) in
+      ap₂ (λ (l r : List A). (l ++ xs) ++ r) front back
+      ∙ sym (append-assoc (take at out ++ xs) ys behind)
+      ∙ ap₂ (λ (l : List A) (k : ℕ). l ++ drop k out) (append-assoc (take at out) xs ys) m
+
+  -- elements stored one behind the other
+  pub placed-sets : (xs out : List A) (from : ℕ) → from + length xs ≤ length out → sets out from xs ≡ placed xs from out
+  unfolding placed
+  placed-sets xs out from h = sets-eq xs out from h
 
   -- one element
   pub placed-one : (x : A) (at : ℕ) (out : List A) → at < length out → set out at x ≡ placed (x ∷ []) at out

@@ -3,6 +3,7 @@ pub mod Sheets
 pub mod Values
 pub mod Tables
 pub mod OneRow
+pub mod Rising
 pub mod Marks
 pub mod Places
 pub mod Least

@@ -18,8 +18,9 @@ use Rattle.message.proofs.Messages.{plain-identifier}
 use Rattle.sheet.specs.declared.Row.{Row}
 use Rattle.sheet.specs.declared.Entry.the-variants.{Found}
 use Rattle.sheet.specs.Sheet.{rows, soundRow, soundRows, soundSheet}
+use Rattle.sheet.specs.Lookup.{codeIs, isFor, rowAmong, rowIn, hasRow}
 use Rattle.sheet.specs.Values.{numbersOf, entryIn, soundValues}
-use Rattle.sheet.proofs.Sheets.{parts-row, code-sound, alone-sound}
+use Rattle.sheet.proofs.Sheets.{parts-row, none-row, code-sound, alone-sound}
 use Rattle.sheet.proofs.Values.{alone-entry, parts-fit, set-here}
 use Rattle.sheet.proofs.Tables.{fitsTest, fits-test, allowed-sound}
 
@@ -33,6 +34,10 @@ pub no-rows-values : (vs : List ℤ) → length vs ≡ 128 → soundValues [] []
 unfolding rows
 no-rows-values vs n = allowed-sound [] vs n refl .0
 
+pub no-rows-none : (i : ℕ) → hasRow [] i ≡ false
+unfolding rowIn rowAmong rows
+no-rows-none i = none-row [] i refl
+
 -- ---- one row
 
 abbrev pub oneRow : (identifier access decimals : ℕ) → List ℤ
@@ -45,8 +50,13 @@ itsNumbers access d = record { access = access; decimals = d; step = pos 1; leas
 abbrev pub oneValue : ℕ → ℤ → List ℤ
 oneValue i n = set (replicate 128 (pos 0)) i n
 
+-- and none for another identifier
+pub one-else : (i access d j : ℕ) → eqb i j ≡ false → hasRow (oneRow i access d) j ≡ false
+unfolding rowIn rowAmong isFor codeIs rows
+one-else i access d j e = none-row (oneRow i access d) j (rw e)
+
 module _ (i access d : ℕ) (pi : isIdentifier i ≡ true) (q : eqb i question ≡ false) (r : inRange (pos 1) (pos access) (pos 3) ≡ true) (k : d ≤ 3) where
-  one-row : soundRow (oneRow i access d) ≡ true
+  pub one-row : soundRow (oneRow i access d) ≡ true
   one-row = parts-row (oneRow i access d) (record {
     six = refl;
     identifier = code-sound i pi q;

@@ -152,6 +152,9 @@ module _ (s : List ℤ) (i : ℕ) where
   pub row-has : length (rowIn s i) ≡ 6 → hasRow s i ≡ true
   row-has h = by-test (hasRow s i) (λ t. t) (λ t. absurd (let z : 0 ≡ 6 = sym (ap length (row-none t)) ∙ h in omega arith))
 
+  pub none-row : rowIn s i ≡ [] → hasRow s i ≡ false
+  none-row e = by-test (hasRow s i) (λ t. absurd (let z : 6 ≡ 0 = sym (row-six t) ∙ ap length e in omega arith)) (λ t. t)
+
   -- in a sound sheet it is a sound row, and its identifier an identifier and not `?`
   module _ (q : soundSheet s ≡ true) where
     pub row-sound : hasRow s i ≡ true → soundRow (rowIn s i) ≡ true

@@ -19,12 +19,12 @@ use Rattle.number.proofs.Cuts.{in-range-ends, in-range-within, cut-is, cut-mult
 use Rattle.message.specs.Message.{isIdentifier, question}
 use Rattle.message.proofs.Messages.{plain-identifier}
 use Rattle.sheet.specs.Sheet.{at, soundIdentifier, soundRow, soundSheet}
-use Rattle.sheet.specs.Lookup.{rowIn, rowOf}
+use Rattle.sheet.specs.Lookup.{rowIn, hasRow, rowOf}
 use Rattle.sheet.specs.Values.{numbersOf, entryOf, entryIn, isReadable, isWritable, isReadWrite, fitsRow, fitsPlace, soundFrom, soundValues}
 use Rattle.sheet.specs.declared.Row.{Row}
 use Rattle.sheet.specs.declared.Entry.{Entry}
 use Rattle.sheet.specs.declared.Entry.the-variants.{Found, Missing}
-use Rattle.sheet.proofs.Sheets.{row-parts, row-has, bench-wins, row-of-cases, row-of-sound, sound-code, alone-row}
+use Rattle.sheet.proofs.Sheets.{row-parts, row-has, row-none, bench-wins, maker-else, row-of-cases, row-of-sound, sound-code, alone-row}
 
 -- ---- a row by value
 
@@ -98,6 +98,10 @@ module _ (bench maker : List ℤ) (i : ℕ) where
   pub entry-none : rowOf bench maker i ≡ [] → entryIn bench maker i ≡ Missing
   unfolding entryIn entryOf soundRow
   entry-none e = ap entryOf e
+
+  -- nor where neither sheet has a row
+  pub entry-absent : hasRow bench i ≡ false → hasRow maker i ≡ false → entryIn bench maker i ≡ Missing
+  entry-absent p q = entry-none (maker-else bench maker i p ∙ row-none maker i q)
 
   -- no entry for a code that is no identifier, or `?`
   pub entry-missing : soundIdentifier (pos i) ≡ false → entryIn bench maker i ≡ Missing

@@ -1,5 +1,5 @@
 -- What a row allows, and which values are sound under two sheets.
-use mathlib.Core.Bool.{Bool, true, cond, not, _&&_}
+use mathlib.Core.Bool.{Bool, true, false, cond, not, _&&_}
 use mathlib.Core.List.{List, [], _∷_}
 use Prim.Native.Nat.{ℕ, suc}
 use lib.Dec.{eqb}
@@ -29,6 +29,11 @@ entryIn bench maker i = entryOf (rowOf bench maker i)
 -- document 01: "access (1 read only, 2 read and write, 3 write only)"; all but "write only" can be read
 unfoldable pub isReadable : Row → Bool
 isReadable r = not (eqb (r .access) 3)
+
+-- a row, and one that can be read
+unfoldable pub isReadableEntry : Entry → Bool
+isReadableEntry (Found r) = isReadable r
+isReadableEntry Missing = false
 
 -- all but "read only"
 unfoldable pub isWritable : Row → Bool

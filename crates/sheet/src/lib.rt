@@ -5,7 +5,7 @@ ghost use mathlib.Core.Bool.{true};
 ghost use Prim.Native.Nat.{_+_, _≤_};
 ghost use lib.ListN.{length, getD, take, drop};
 ghost use Rattle.sheet.specs.Sheet.{at, rows, soundIdentifier, soundNumbers, soundRow, soundSheet};
-ghost use Rattle.sheet.specs.Lookup.{codeIs, placeIn, rowOf, shown, from, rowLies, shownLies};
+ghost use Rattle.sheet.specs.Lookup.{hasRow, codeIs, placeIn, rowOf, shown, from, rowLies, shownLies};
 ghost use Rattle.sheet.specs.Values.{numbersOf, entryOf, entryIn, isReadable, isWritable, isReadWrite, fitsRow, fitsPlace, soundValues};
 ghost use Rattle.sheet.specs.Inner.{wholeRow, entryAt, indexOf, partAt, markedRow, marked, fitsOnce, fitsRows, seenRows};
 
@@ -111,6 +111,13 @@ fn place_in(sheet: &[i32], identifier: u8) -> usize
         i += 6;
     }
     sheet.len()
+}
+
+// Whether the sheet has a row of the identifier.
+pub fn has_row(sheet: &[i32], identifier: u8) -> bool
+    ensures { λ r. ⌜ r ≡ hasRow (now (sheet .entry)) identifier ⌝ }
+{
+    place_in(sheet, identifier) < sheet.len()
 }
 
 // Six numbers from a place on, or those that are left.
