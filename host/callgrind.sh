@@ -19,10 +19,12 @@ count() { # call side pattern
 }
 
 printf '%-12s %9s %5s %11s %11s %8s\n' call words rows proved reference ratio
-for call in run normal_form step write read line lookup; do
+for call in run normal_form step write read line lookup scan; do
     name=$(echo "$call" | tr _ ' ')
-    proved=$(count "$name" proved "kav_$call")
-    reference=$(count "$name" reference "kavtziron_host::reference::calls::$call*")
+    # A recording full of scans is played by run.
+    case $call in scan) function=run ;; *) function=$call ;; esac
+    proved=$(count "$name" proved "kav_$function")
+    reference=$(count "$name" reference "kavtziron_host::reference::calls::$function*")
     awk -v c="$name" -v w="$words" -v r="$rows" -v p="$proved" -v q="$reference" 'BEGIN {
         printf "%-12s %9d %5d %11.2f %11.2f %8.2f\n", c, w, r, p / w, q / w, q ? p / q : 0 }'
 done

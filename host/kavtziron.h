@@ -7,7 +7,7 @@
  *
  * Each function gives 0 or more, or minus the number of a refusal:
  *
- *   1  the card is unsound, or its offer is one that no Type 3 could leave
+ *   1  the card or its scan is unsound, or its offer is one that no Type 3 could leave
  *   2  a sheet is unsound
  *   3  the values are not 128, or one is out of range or off its step
  *   4  a word lent is above 256
@@ -17,12 +17,15 @@
  *
  * A refused call changes nothing lent. Nothing behind the last number written changes.
  *
- * A card is 16 numbers: 0 letter ('L' or 'R', with no parity), 1 address, 2 count of open characters,
+ * A card is 22 numbers: 0 letter ('L' or 'R', with no parity), 1 address, 2 count of open characters,
  * 3 to 12 the characters (0 behind), 13 mark of an offer (1, or 0 for none), 14 its identifier, 15 its
- * value (0, 0 where there is none). Another length, or numbers 0 to 12 that no sound card has, is number
- * 1 before the sheets are looked at. Numbers 13 to 15 that no sound offer has (a mark of 2, an identifier
- * of 300, a mark of 0 with a value) are number 1 after the sheets: with an unsound sheet it is number 2.
- * A served call writes back numbers 2 to 15 and nothing else.
+ * value (0, 0 where there is none), 16 count of the identifiers that a query on ']' answers with (0, 4
+ * or 5), 17 to 21 those identifiers in order, the same again allowed; what stands behind the count isn't
+ * looked at. Another length, or numbers 0 to 12 that no sound card has, is number 1 before the sheets
+ * are looked at. Numbers 13 to 21 that no sound offer or scan has (a mark of 2, an identifier of 300, a
+ * mark of 0 with a value, a count of 3, a named identifier that has no row or can't be read) are number 1
+ * after the sheets: with an unsound sheet it is number 2. A row for ']' in either sheet, whatever the
+ * card names, is number 1 in that place too. A served call writes back numbers 2 to 15 and nothing else.
  * A sheet is 0 to 64 rows of six numbers: identifier, access (1 read only, 2 read and write, 3 write
  * only), decimals, step, least, greatest. Values are 128 numbers, one for each character code.
  */
@@ -36,18 +39,18 @@
 extern "C" {
 #endif
 
-#define KAV_CARD 16   /* numbers of a card */
+#define KAV_CARD 22   /* numbers of a card */
 #define KAV_VALUES 128 /* values */
 #define KAV_ROW 6     /* numbers of a row */
-#define KAV_ANSWER 7  /* numbers of an answer */
-#define KAV_REPLY 11  /* no reply is longer, in bytes */
+#define KAV_ANSWER 15 /* numbers of an answer */
+#define KAV_REPLY 33  /* no reply is longer, in bytes */
 #define KAV_LINE 35   /* no line of the listing is longer, in bytes */
 #define KAV_SILENCE 256 /* the word for a silence longer than the timeout */
 
 /*
  * Takes one word. Gives the count of bytes replied into out; 0 is silence.
- * The card and the values are changed in their place. out: at least 11 bytes, whatever the word.
- * Refused with 1 (card), 2, 1 (offer), 3, 4, 5, in this order.
+ * The card and the values are changed in their place. out: at least 33 bytes, whatever the card and the
+ * word. Refused with 1 (card), 2, 1 (offer and scan), 3, 4, 5, in this order.
  */
 int64_t kav_step(int32_t *card, size_t card_length,
                  const int32_t *bench, size_t bench_length,
@@ -59,7 +62,7 @@ int64_t kav_step(int32_t *card, size_t card_length,
 /*
  * Takes words until all are taken or the next word's reply no longer fits in out, which isn't a
  * refusal. Gives 0, with counts[0] words taken and counts[1] bytes written.
- * Refused with 1 (card), 2, 1 (offer), 3, 4, and 5 where counts is shorter than two.
+ * Refused with 1 (card), 2, 1 (offer and scan), 3, 4, and 5 where counts is shorter than two.
  */
 int64_t kav_run(int32_t *card, size_t card_length,
                 const int32_t *bench, size_t bench_length,
@@ -86,9 +89,9 @@ int64_t kav_write(uint8_t letter, uint32_t address, uint8_t identifier, uint8_t 
                   uint8_t *out, size_t out_length);
 
 /*
- * Reads one whole reply. Gives 7, with answer holding letter, address, identifier, 'A', 'I' or 'N',
- * 1 or 0 for a number, the number in units of its last decimal, and its decimals (0, 0 where there
- * is none). Refused with 6, and 5 where answer is shorter than seven.
+ * Reads one whole reply. Gives 15, with answer holding letter, address, identifier, 'A', 'I' or 'N',
+ * count of numbers (0, 1, or 4 or 5 of a scan), and five times a number in units of its last decimal and
+ * its decimals (0, 0 behind the count). Refused with 6, and 5 where answer is shorter than fifteen.
  */
 int64_t kav_read(const uint8_t *bytes, size_t bytes_length,
                  int32_t *answer, size_t answer_length);

@@ -41,6 +41,15 @@ static size_t words_of(const char *text, uint16_t *words) {
     return at;
 }
 
+static size_t bytes_of(const char *text, uint8_t *bytes) {
+    uint16_t words[64];
+    size_t length = words_of(text, words);
+    for (size_t at = 0; at < length; at++) {
+        bytes[at] = (uint8_t)words[at];
+    }
+    return length;
+}
+
 int main(void) {
     const int32_t bench[] = {
         'J', 2, 1, 5, -100, 100,
@@ -68,7 +77,7 @@ int main(void) {
     check("words taken", (int64_t)counts[0], (int64_t)length);
     check_text("replies", out, (int64_t)counts[1], "L7m00201I*L7m00201A*");
     check("run with a short card",
-          kav_run(card, 15, bench, bench_length, maker, 0, values, KAV_VALUES,
+          kav_run(card, KAV_CARD - 1, bench, bench_length, maker, 0, values, KAV_VALUES,
                   words, length, out, sizeof out, counts, 2), -1);
     check("run with short counts",
           kav_run(card, KAV_CARD, bench, bench_length, maker, 0, values, KAV_VALUES,
@@ -95,7 +104,7 @@ int main(void) {
                    257, out, sizeof out), -4);
     check("step with little room",
           kav_step(card, KAV_CARD, bench, bench_length, maker, 0, values, KAV_VALUES,
-                   KAV_SILENCE, out, 10), -5);
+                   KAV_SILENCE, out, KAV_REPLY - 1), -5);
 
     /* Numbers that are no offer are judged after the sheets. */
     card[13] = 2;
@@ -106,6 +115,27 @@ int main(void) {
           kav_step(card, KAV_CARD, bench, bench_length - 1, maker, 0, values, KAV_VALUES,
                    KAV_SILENCE, out, sizeof out), -2);
     card[13] = 0;
+
+    /* A scan of five and one of four; then ']' has a row of its own. */
+    const int32_t named[] = {5, 'm', 'M', 'm', 'J', 'M'};
+    const int32_t own[KAV_ROW] = {']', 1, 0, 1, 0, 0};
+    memcpy(card + 16, named, sizeof named);
+    length = words_of("L7]?*L7]+*L7]I*", words);
+    check("scan", kav_run(card, KAV_CARD, bench, bench_length, maker, 0, values, KAV_VALUES,
+                          words, length, out, sizeof out, counts, 2), 0);
+    check_text("its reply", out, (int64_t)counts[1], "L7]250025102311002510000102311A*L7]00000N*");
+    card[16] = 4;
+    check("scan of four", kav_run(card, KAV_CARD, bench, bench_length, maker, 0, values, KAV_VALUES,
+                                  words, 5, out, sizeof out, counts, 2), 0);
+    check_text("its reply", out, (int64_t)counts[1], "L7]2000251023110025100001A*");
+    check("step with a row for the scan",
+          kav_step(card, KAV_CARD, bench, bench_length, own, KAV_ROW, values, KAV_VALUES,
+                   KAV_SILENCE, out, sizeof out), -1);
+    card[16] = 3;
+    check("step with a scan of three",
+          kav_step(card, KAV_CARD, bench, bench_length, maker, 0, values, KAV_VALUES,
+                   KAV_SILENCE, out, sizeof out), -1);
+    card[16] = 0;
 
     length = words_of("xL07M?*L7J#00006*L7", words);
     int64_t count = kav_normal_form(words, length, normal, 64);
@@ -121,11 +151,12 @@ int main(void) {
     check("write with little room", kav_write('R', 70, 'm', '#', -15, 1, out, 10), -5);
 
     int32_t answer[KAV_ANSWER];
-    uint8_t reply[16];
-    length = words_of("L7J00156I*", words);
-    for (size_t at = 0; at < length; at++) {
-        reply[at] = (uint8_t)words[at];
-    }
+    uint8_t reply[KAV_REPLY];
+    length = bytes_of("L70]250025102311002510000199998A*", reply);
+    check("read of a scan", kav_read(reply, length, answer, KAV_ANSWER), KAV_ANSWER);
+    const int32_t scan[KAV_ANSWER] = {'L', 70, ']', 'A', 5, 25, 1, 231, 1, 25, 1, 0, 1, -9999, 3};
+    check("its answer", memcmp(answer, scan, sizeof scan), 0);
+    length = bytes_of("L7J00156I*", reply);
     check("read", kav_read(reply, length, answer, KAV_ANSWER), KAV_ANSWER);
     const int32_t wanted[KAV_ANSWER] = {'L', 7, 'J', 'I', 1, -15, 1};
     check("answer", memcmp(answer, wanted, sizeof wanted), 0);

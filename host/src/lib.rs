@@ -1,7 +1,7 @@
-//! An independent implementation of document 01 (`papers/01-scope.md`) in plain Rust, written from
-//! the paper alone, and what compares it with the proved archive.
+//! An independent implementation of document 01 (`papers/01-scope.md`) and of request 1 of document 02
+//! in plain Rust, written from the papers alone, and what compares it with the proved archive.
 //!
-//! - [`reference`]: the paper's rules.
+//! - [`reference`]: the papers' rules.
 //! - `abi`: the seven C functions of the archive, with safe wrappers. Only where they are linked.
 //! - [`gen`]: seeded generators of inputs, for the tests and the benchmarks.
 

@@ -62,10 +62,10 @@ module _ (part out : List ℤ) where
   lookup-row h n = rw (le-ltb _ _ h, eq-eqb _ _ n)
 
 module _ (a : Answer) (out : List ℤ) where
-  pub read-short : length out < 7 → readInto (gave a) out ≡ filled (minusNumber 5) out
+  pub read-short : length out < 15 → readInto (gave a) out ≡ filled (minusNumber 5) out
   unfolding readInto
   read-short h = rw (lt-ltb _ _ h)
 
-  pub read-long : 7 ≤ length out → readInto (gave a) out ≡ filled (pos 7) (laid (answerRow a) out)
+  pub read-long : 15 ≤ length out → readInto (gave a) out ≡ filled (pos 15) (laid (answerRow a) out)
   unfolding readInto
   read-long h = rw (le-ltb _ _ h)

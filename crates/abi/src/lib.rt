@@ -1,9 +1,9 @@
 // The boundary for hosts: the calls as C functions over numbers and slices of numbers alone.
 // Each gives back minus the number of its refusal, or a count (`kav_run`: 0). A refused call changes nothing lent.
 ghost use mathlib.Core.Path.{_≡_};
-ghost use mathlib.Core.List.{List};
+ghost use mathlib.Core.List.{List, [], _∷_};
 ghost use Prim.Native.Nat.{ℕ, _≤_};
-ghost use lib.IntN.{ℤ};
+ghost use lib.IntN.{ℤ, pos};
 ghost use lib.ListN.{length};
 ghost use Rattle.refusal.specs.Refusal.{outcomeOf, numberOf};
 ghost use Rattle.refusal.specs.Check.{first};
@@ -11,11 +11,12 @@ ghost use Rattle.refusal.specs.Buffer.{laid};
 ghost use Rattle.hearing.specs.Normal.{normalCall};
 ghost use Rattle.message.specs.Prefix.{message};
 ghost use Rattle.sheet.specs.Lookup.{shown};
+ghost use Rattle.reply.specs.Reply.{markOf};
 ghost use Rattle.reply.specs.Read.{readCall};
 ghost use Rattle.card.specs.Refusals.{cardChecks};
 ghost use Rattle.card.specs.Calls.{stepAfter, runAfter};
 ghost use Rattle.abi.specs.Result.{minusNumber, countResult, resultOf, filled, given, setOf, bodyOf, asked, writeAsked, lineAsked};
-ghost use Rattle.abi.specs.Rows.{answerRow, readInto, lookupInto};
+ghost use Rattle.abi.specs.Rows.{pairs, answerRow, readInto, lookupInto};
 ghost use Rattle.abi.specs.Calls.{oneWord, stepOn, kavStep, manyWords, runOn, shortRun, kavRun};
 use card::Card;
 use card::Ran;
@@ -116,6 +117,9 @@ fn asked(letter: u8, address: u32, identifier: u8, kind: u8, number: i32, decima
 
 // ---- rows of numbers
 
+// How many numbers an answer has.
+const ANSWER: usize = 15;
+
 // The numbers at the front of a row.
 fn copy(numbers: &[i32], out: &mut [i32])
     requires { ⌜ length (now numbers) ≤ length (now out) ⌝ }
@@ -128,22 +132,55 @@ fn copy(numbers: &[i32], out: &mut [i32])
     }
 }
 
-fn answer_row(answer: Answer) -> [i32; 7]
-    ensures { λ r. ⌜ r ≡ answerRow answer ⌝ }
+// The row of an answer with so many numbers; those behind the last are 0 with no decimals.
+fn row_of(
+    answer: Answer,
+    count: i32,
+    a: Decimal,
+    b: Decimal,
+    c: Decimal,
+    d: Decimal,
+    e: Decimal,
+) -> [i32; ANSWER]
+    ensures { λ r. ⌜ r ≡ pos (answer .letter) ∷ pos (answer .address) ∷ pos (answer .identifier) ∷ pos (markOf (answer .mark)) ∷ count ∷ pairs (a ∷ b ∷ c ∷ d ∷ e ∷ []) ⌝ }
 {
     let letter = row::wide(answer.letter);
     let address = row::wide(answer.address);
     let identifier = row::wide(answer.identifier);
     let given = answer.mark;
     let mark = row::wide(reply::mark_of(given));
+    [
+        letter,
+        address,
+        identifier,
+        mark,
+        count,
+        a.number,
+        row::wide(a.decimals),
+        b.number,
+        row::wide(b.decimals),
+        c.number,
+        row::wide(c.decimals),
+        d.number,
+        row::wide(d.decimals),
+        e.number,
+        row::wide(e.decimals),
+    ]
+}
+
+fn answer_row(answer: Answer) -> [i32; ANSWER]
+    ensures { λ r. ⌜ r ≡ answerRow answer ⌝ }
+{
+    let none = Decimal {
+        number: 0,
+        decimals: 0,
+    };
     let content = answer.content;
     match content {
-        Content::Empty => [letter, address, identifier, mark, 0, 0, 0],
-        Content::Number(x) => {
-            let number = x.number;
-            let decimals = row::wide(x.decimals);
-            [letter, address, identifier, mark, 1, number, decimals]
-        }
+        Content::Empty => row_of(answer, 0, none, none, none, none, none),
+        Content::Number(a) => row_of(answer, 1, a, none, none, none, none),
+        Content::Four(a, b, c, d) => row_of(answer, 4, a, b, c, d, none),
+        Content::Five(a, b, c, d, e) => row_of(answer, 5, a, b, c, d, e),
     }
 }
 
@@ -196,7 +233,7 @@ pub extern "C" fn kav_line(
     }
 }
 
-// One reply: 7, with its answer as seven numbers.
+// One reply: 15, with its answer as fifteen numbers.
 #[no_mangle]
 pub extern "C" fn kav_read(bytes: &[u8], answer: &mut [i32]) -> i64
     ensures { λ r. ⌜ filled r (now (answer .exit)) ≡ readInto (readCall (now (bytes .entry))) (now (answer .entry)) ⌝ }
@@ -204,12 +241,12 @@ pub extern "C" fn kav_read(bytes: &[u8], answer: &mut [i32]) -> i64
     match reply::read(bytes) {
         Reading::Refused(refusal) => minus_number(refusal),
         Reading::Gave(gave) => {
-            if answer.len() < 7 {
+            if answer.len() < ANSWER {
                 return minus_number(Refusal::RoomTooShort);
             }
             let numbers = answer_row(gave);
             copy(&numbers, answer);
-            7
+            15
         }
     }
 }

@@ -2,15 +2,16 @@
 -- sound, so a stored value, an offer, a step in range and a cut have at most four digits and three decimals, and only Type 1 has the
 -- identifier `?`. Assumes nothing.
 use mathlib.Core.Path.{_≡_, refl, sym, ap, _∙_, subst}
-use mathlib.Core.Bool.{true, false, _&&_}
+use mathlib.Core.Bool.{Bool, true, false, not, _&&_, _||_, false≢true}
 use mathlib.Core.List.{List}
-use Prim.Native.Nat.{ℕ}
+use Prim.Native.Nat.{ℕ, _<_}
 use native.Mathlib.Omega.{arith}
 use borrow.Author.Tests.{eqb-true}
 use lib.Dec.{eqb, lit≤}
 use lib.IntN.{ℤ, pos}
 use lib.ListN.{getD}
-use Rattle.refusal.proofs.Logic.{and-right, ands, choice}
+use Rattle.refusal.specs.Lists.{every}
+use Rattle.refusal.proofs.Logic.{and-both, and-right, ands, or-cases, choice}
 use Rattle.number.specs.Number.{inRange, cut, raised, lowered}
 use Rattle.number.specs.declared.Decimal.{Decimal}
 use Rattle.number.specs.Data.{withDecimals, fits}
@@ -31,15 +32,15 @@ use Rattle.reply.specs.declared.Mark.the-variants.{Accepted, Offered, Declined}
 use Rattle.reply.specs.declared.Content.{Content}
 use Rattle.reply.specs.declared.Content.the-variants.{Empty, Number}
 use Rattle.reply.specs.declared.Answer.{Answer}
-use Rattle.reply.specs.Reply.{fitsContent, isAnswer}
-use Rattle.reply.proofs.Reader.{parts-answer, content-number, content-status}
+use Rattle.reply.specs.Reply.{scanIdentifier, isNone, fitsContent, isAnswer}
+use Rattle.reply.proofs.Reader.{parts-answer, content-number, content-status, scan-no-status, scan-four, scan-five}
 use Rattle.act.specs.declared.Setup.{Setup}
 use Rattle.act.specs.declared.Offer.{Offer}
 use Rattle.act.specs.declared.Offer.the-variants.{Nothing, Held}
 use Rattle.act.specs.declared.Said.the-variants.{Silence, Reply}
 use Rattle.act.specs.declared.Store.the-variants.{Keep, Put}
 use Rattle.act.specs.declared.Effect.{Effect}
-use Rattle.act.specs.Act.{answerTo, says, accepts, shownBy, declines, query, moves, up, down, offers, setTo, decimalsOf, store, serve, isFor, respond, act}
+use Rattle.act.specs.Act.{answerTo, noNumber, says, accepts, shownBy, declines, query, moves, up, down, offers, setTo, decimalsOf, store, serve, named, valueOf, scanOf, declinesScan, serveScan, isFor, addressed, respond, act}
 
 -- the row of i allows the value z
 pub record Allowed (bench maker : List ℤ) (i : ℕ) (z : ℤ) : Type 0 where
@@ -51,6 +52,11 @@ pub record Allowed (bench maker : List ℤ) (i : ℕ) (z : ℤ) : Type 0 where
 abbrev pub Fair : List ℤ → List ℤ → Offer → Type 0
 Fair bench maker Nothing = Unit {0}
 Fair bench maker (Held i z) = Allowed bench maker i z
+
+-- the identifiers that a card names for its scan have rows, and it names none, four or five
+pub record FairScan (bench maker : List ℤ) (c : Setup) : Type 0 where
+  pub many : (eqb (c .count) 0 || eqb (c .count) 4 || eqb (c .count) 5) ≡ true
+  pub rows : (k : ℕ) → k < c .count → (r : Row) × (entryIn bench maker (named c k) ≡ Found r)
 
 -- what it stores, the row allows, and what it says is an answer
 pub record Good (bench maker : List ℤ) (x : Effect) : Type 0 where
@@ -69,6 +75,17 @@ said-is a b e h = let q : a ≡ b = cc in rw q at h
 -- what is in the range of a sound row can be written with the row's decimals
 row-fits : (r : Row) → SoundRow r → (z : ℤ) → inRange (r .least) z (r .greatest) ≡ true → fits (withDecimals z (r .decimals)) ≡ true
 row-fits r s z h = within-fits (withDecimals z (r .decimals)) (range-small r s z h) (s .decimals-most)
+
+or-right : (a : Bool) {b : Bool} → b ≡ true → (a || b) ≡ true
+or-right true e = refl
+or-right false e = e
+
+-- a count that is neither none nor four
+five : (n : ℕ) → (eqb n 0 || eqb n 4 || eqb n 5) ≡ true → eqb n 0 ≡ false → eqb n 4 ≡ false → n ≡ 5
+five n e p q =
+    or-cases (eqb n 0 || eqb n 4) (eqb n 5) e
+    (λ h. or-cases (eqb n 0) (eqb n 4) h (λ t. absurd (false≢true (sym p ∙ t))) (λ t. absurd (false≢true (sym q ∙ t))))
+    (λ h. eqb-true n 5 h)
 
 zero-fits : fits (withDecimals (pos 0) 0) ≡ true
 zero-fits = within-fits (withDecimals (pos 0) 0) (lit≤ tt) (lit≤ tt)
@@ -106,10 +123,10 @@ module _ (bench maker values : List ℤ) (v : soundValues bench maker values ≡
   known k x e =
       parts-answer (answerTo m k x) (record { is-letter = p .is-letter; is-address = p .is-address; is-identifier = p .is-identifier; fits-content = e })
 
-  -- every type but the first
-  module _ (q : eqb (m .identifier) question ≡ false) where
+  -- every type but the first, on any identifier but `]`
+  module _ (q : eqb (m .identifier) question ≡ false) (u : eqb (m .identifier) scanIdentifier ≡ false) where
     number : (k : Mark) (x : Decimal) → fits x ≡ true → isAnswer (answerTo m k (Number x)) ≡ true
-    number k x f = known k (Number x) (content-number (m .identifier) k x q f)
+    number k x f = known k (Number x) (content-number (m .identifier) k x (record { no-status = q; fit = f; no-scan = rw u }))
 
     -- with a row r
     module _ (r : Row) (f : entry ≡ Found r) where
@@ -195,17 +212,59 @@ module _ (bench maker values : List ℤ) (v : soundValues bench maker values ≡
         (λ t. good-silence bench maker Nothing)
     good-store Nothing g = good-silence bench maker Nothing
 
-  good-serve : (o : Offer) → Fair bench maker o → (b : Body) → BodyParts (m .identifier) b → Good bench maker (serve m entry o value b)
+  good-serve : (o : Offer) → Fair bench maker o → eqb (m .identifier) scanIdentifier ≡ false → (b : Body) → BodyParts (m .identifier) b → Good bench maker (serve m entry o value b)
   unfolding serve
-  good-serve o g body.Status f = good-says bench maker m Accepted Empty (known Accepted Empty (content-status (m .identifier) f))
-  good-serve o g body.Query f = good-query f entry refl
-  good-serve o g body.Up f = good-up f entry refl
-  good-serve o g body.Down f = good-down f entry refl
-  good-serve o g (body.Set x) f = good-set (f .0) entry x refl
-  good-serve o g body.Store f = good-store f o g
+  good-serve o g u body.Status f = good-says bench maker m Accepted Empty (known Accepted Empty (content-status (m .identifier) f))
+  good-serve o g u body.Query f = good-query f u entry refl
+  good-serve o g u body.Up f = good-up f u entry refl
+  good-serve o g u body.Down f = good-down f u entry refl
+  good-serve o g u (body.Set x) f = good-set (f .0) u entry x refl
+  good-serve o g u body.Store f = good-store f u o g
 
-  pub good-act : (c : Setup) (o : Offer) → Fair bench maker o → Good bench maker (act bench maker c o values m)
-  unfolding act respond
-  good-act c o g =
+  -- ---- on `]`, at a card whose scan is fair
+
+  module _ (u : eqb (m .identifier) scanIdentifier ≡ true) where
+    good-declined : Good bench maker (declinesScan m)
+    unfolding declinesScan isNone
+    good-declined =
+        good-says bench maker m Declined noNumber
+        (known Declined noNumber (content-number (m .identifier) Declined (withDecimals (pos 0) 0) (record { no-status = scan-no-status (m .identifier) u; fit = zero-fits; no-scan = or-right (not (eqb (m .identifier) scanIdentifier)) refl })))
+
+    module _ (c : Setup) (s : FairScan bench maker c) where
+      -- each value can be written
+      its : (k : ℕ) → k < c .count → fits (valueOf (entryIn bench maker) (λ (i : ℕ). getD values i (pos 0)) (named c k)) ≡ true
+      unfolding valueOf
+      its k h =
+          let p = s .rows k h in
+          let r = p .0 in
+          let held = good-values bench maker values v .each (named c k) r (p .1) in
+          rw (p .1) (row-fits r (entry-sound bench maker (named c k) r (p .1)) (getD values (named c k) (pos 0)) (fits-parts r (getD values (named c k) (pos 0)) held .0))
+
+      scan-known : eqb (c .count) 0 ≡ false → isAnswer (answerTo m Accepted (scanOf c (valueOf (entryIn bench maker) (λ (i : ℕ). getD values i (pos 0))))) ≡ true
+      unfolding scanOf every
+      scan-known n =
+          choice (λ (x : Content). isAnswer (answerTo m Accepted x) ≡ true) (eqb (c .count) 4)
+          (λ t.
+          let e = eqb-true (c .count) 4 t in
+          known Accepted _ (scan-four (m .identifier) _ _ _ _ u (and-both (its 0 (omega arith)) (and-both (its 1 (omega arith)) (and-both (its 2 (omega arith)) (and-both (its 3 (omega arith)) refl))))))
+          (λ t.
+          let e : c .count ≡ 5 = five (c .count) (s .many) n t in
+          known Accepted _ (scan-five (m .identifier) _ _ _ _ _ u (and-both (its 0 (omega arith)) (and-both (its 1 (omega arith)) (and-both (its 2 (omega arith)) (and-both (its 3 (omega arith)) (and-both (its 4 (omega arith)) refl)))))))
+
+      good-scan : (b : Body) → Good bench maker (serveScan c m (scanOf c (valueOf (entryIn bench maker) (λ (i : ℕ). getD values i (pos 0)))) b)
+      unfolding serveScan
+      good-scan body.Status = good-declined
+      good-scan body.Query = choice (Good bench maker) (eqb (c .count) 0) (λ t. good-declined) (λ t. good-says bench maker m Accepted _ (scan-known t))
+      good-scan body.Up = good-declined
+      good-scan body.Down = good-declined
+      good-scan (body.Set x) = good-declined
+      good-scan body.Store = good-silence bench maker Nothing
+
+  pub good-act : (c : Setup) (o : Offer) → FairScan bench maker c → Fair bench maker o → Good bench maker (act bench maker c o values m)
+  unfolding act respond addressed
+  good-act c o s g =
       choice (Good bench maker) (isFor c m)
-      (λ t. good-serve o g (m .body) (body-parts (m .identifier) (m .body) (p .fits-body))) (λ t. good-silence bench maker Nothing)
+      (λ t.
+      choice (Good bench maker) (eqb (m .identifier) scanIdentifier) (λ u. good-scan u c s (m .body))
+      (λ u. good-serve o g u (m .body) (body-parts (m .identifier) (m .body) (p .fits-body))))
+      (λ t. good-silence bench maker Nothing)

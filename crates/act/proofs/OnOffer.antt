@@ -23,13 +23,14 @@ use Rattle.sheet.specs.Values.{entryIn, isReadable, isWritable, isReadWrite}
 use Rattle.reply.specs.declared.Mark.{Mark}
 use Rattle.reply.specs.declared.Mark.the-variants.{Accepted, Offered, Declined}
 use Rattle.reply.specs.declared.Content.{Content}
-use Rattle.reply.specs.declared.Content.the-variants.{Empty, Number}
+use Rattle.reply.specs.declared.Content.the-variants.{Empty, Number, Four, Five}
+use Rattle.reply.specs.Reply.{scanIdentifier}
 use Rattle.act.specs.declared.Setup.{Setup}
 use Rattle.act.specs.declared.Offer.{Offer}
 use Rattle.act.specs.declared.Offer.the-variants.{Nothing, Held}
 use Rattle.act.specs.declared.Said.the-variants.{Reply}
 use Rattle.act.specs.declared.Effect.{Effect}
-use Rattle.act.specs.Act.{answerTo, says, accepts, shownBy, declines, query, moves, up, down, offers, setTo, decimalsOf, store, serve, isFor, respond, act}
+use Rattle.act.specs.Act.{answerTo, noNumber, says, accepts, shownBy, declines, query, moves, up, down, offers, setTo, decimalsOf, store, serve, named, valueOf, scanOf, declinesScan, serveScan, isFor, addressed, respond, act}
 
 -- the message m leaves the value z on offer for the identifier i
 pub record Leaves (bench maker : List ℤ) (m : Message) (i : ℕ) (z : ℤ) : Type 0 where
@@ -114,11 +115,39 @@ module _ (bench maker : List ℤ) (m : Message) where
   left-serve o v (body.Set x) e = left-set (entryIn bench maker (m .identifier)) v x refl e
   left-serve o v body.Store e = left-store (entryIn bench maker (m .identifier)) o
 
+  left-scan : (c : Setup) (x : Content) (b : Body) → Left (serveScan c m x b)
+  unfolding serveScan declinesScan
+  left-scan c x body.Status = left-says Declined noNumber
+  left-scan c x body.Query = choice Left (eqb (c .count) 0) (λ t. left-says Declined noNumber) (λ t. left-says Accepted x)
+  left-scan c x body.Up = left-says Declined noNumber
+  left-scan c x body.Down = left-says Declined noNumber
+  left-scan c x (body.Set y) = left-says Declined noNumber
+  left-scan c x body.Store = λ i z q. nothing q
+
   pub act-leaves : (c : Setup) (o : Offer) (values : List ℤ) (i : ℕ) (z : ℤ) → act bench maker c o values m .offer ≡ Held i z → Leaves bench maker m i z
-  unfolding act respond
+  unfolding act respond addressed
   act-leaves c o values =
       choice Left (isFor c m)
-      (λ t. left-serve o (getD values (m .identifier) (pos 0)) (m .body) refl) (λ t i z q. nothing q)
+      (λ t.
+      choice Left (eqb (m .identifier) scanIdentifier) (λ u. left-scan c _ (m .body))
+      (λ u. left-serve o (getD values (m .identifier) (pos 0)) (m .body) refl))
+      (λ t i z q. nothing q)
+
+-- ---- the values that a card names
+
+-- by the row of the identifier
+pub value-is : (e : ℕ → Entry) (v : ℕ → ℤ) (i : ℕ) (r : Row) → e i ≡ Found r → valueOf e v i ≡ withDecimals (v i) (r .decimals)
+unfolding valueOf
+value-is e v i r f = rw f
+
+module _ (c : Setup) (x : ℕ → Decimal) where
+  pub four-named : c .count ≡ 4 → scanOf c x ≡ Four (x (named c 0)) (x (named c 1)) (x (named c 2)) (x (named c 3))
+  unfolding scanOf
+  four-named n = rw n
+
+  pub five-named : c .count ≡ 5 → scanOf c x ≡ Five (x (named c 0)) (x (named c 1)) (x (named c 2)) (x (named c 3)) (x (named c 4))
+  unfolding scanOf
+  five-named n = rw n
 
 -- ---- a message for this card
 
@@ -127,40 +156,66 @@ pub own-card : (c : Setup) (m : Message) → c .letter ≡ m .letter → c .addr
 unfolding isFor
 own-card c m p q = and-both (eq-eqb (m .letter) (c .letter) (sym p)) (eq-eqb (m .address) (c .address) (sym q))
 
+-- what the card does, by whether the message is on `]`
+module _ (c : Setup) (o : Offer) (e : ℕ → Entry) (v : ℕ → ℤ) (m : Message) where
+  pub scan-responds : eqb (m .identifier) scanIdentifier ≡ true → addressed c m (serveScan c m (scanOf c (valueOf e v)) (m .body)) ≡ respond c o e v m
+  unfolding respond
+  scan-responds q = sym (rw q)
+
+  pub row-responds : eqb (m .identifier) scanIdentifier ≡ false → addressed c m (serve m (e (m .identifier)) o (v (m .identifier)) (m .body)) ≡ respond c o e v m
+  unfolding respond
+  row-responds q = sym (rw q)
+
 module _ (bench maker : List ℤ) (c : Setup) (o : Offer) (values : List ℤ) (m : Message) (its : isFor c m ≡ true) where
   abbrev pub answered : Effect
   answered = act bench maker c o values m
 
-  served : (b : Body) → m .body ≡ b → answered ≡ serve m (entryIn bench maker (m .identifier)) o (getD values (m .identifier) (pos 0)) b
-  unfolding act respond
-  served b e = rw (its, e)
+  -- on `]`: the values that the card names, or `N` with `00000`
+  module _ (u : eqb (m .identifier) scanIdentifier ≡ true) where
+    scanned : (b : Body) → m .body ≡ b → answered ≡ serveScan c m (scanOf c (valueOf (entryIn bench maker) (λ (i : ℕ). getD values i (pos 0)))) b
+    unfolding act respond addressed
+    scanned b e = rw (its, u, e)
 
-  pub status-said : m .body ≡ body.Status → answered .said ≡ Reply (answerTo m Accepted Empty)
-  unfolding serve says
-  status-said b = ap (λ (x : Effect). x .said) (served body.Status b)
+    pub scan-said : m .body ≡ body.Query → eqb (c .count) 0 ≡ false → answered .said ≡ Reply (answerTo m Accepted (scanOf c (valueOf (entryIn bench maker) (λ (i : ℕ). getD values i (pos 0)))))
+    unfolding serveScan says
+    scan-said b k = ap (λ (x : Effect). x .said) (scanned body.Query b) ∙ rw k
 
-  module _ (r : Row) (f : entryIn bench maker (m .identifier) ≡ Found r) where
-    -- its entry is known
-    found : (b : Body) → m .body ≡ b → answered ≡ serve m (Found r) o (getD values (m .identifier) (pos 0)) b
-    found b e = served b e ∙ rw f
+    pub scan-declined : m .body ≡ body.Up → answered .said ≡ Reply (answerTo m Declined noNumber)
+    unfolding serveScan declinesScan says
+    scan-declined b = ap (λ (x : Effect). x .said) (scanned body.Up b)
 
-    pub query-said : m .body ≡ body.Query → isReadable r ≡ true → answered .said ≡ Reply (answerTo m Accepted (Number (withDecimals (getD values (m .identifier) (pos 0)) (r .decimals))))
-    unfolding serve query says
-    query-said b h = ap (λ (x : Effect). x .said) (found body.Query b) ∙ rw h
+  -- on any other identifier
+  module _ (u : eqb (m .identifier) scanIdentifier ≡ false) where
+    served : (b : Body) → m .body ≡ b → answered ≡ serve m (entryIn bench maker (m .identifier)) o (getD values (m .identifier) (pos 0)) b
+    unfolding act respond addressed
+    served b e = rw (its, u, e)
 
-    pub up-refused : m .body ≡ body.Up → isReadWrite r ≡ false → isReadable r ≡ true → answered .said ≡ Reply (answerTo m Declined (Number (withDecimals (getD values (m .identifier) (pos 0)) (r .decimals))))
-    unfolding serve up moves declines shownBy says
-    up-refused b k h = ap (λ (x : Effect). x .said) (found body.Up b) ∙ rw (k, h)
+    pub status-said : m .body ≡ body.Status → answered .said ≡ Reply (answerTo m Accepted Empty)
+    unfolding serve says
+    status-said b = ap (λ (x : Effect). x .said) (served body.Status b)
 
-    module _ (n : ℤ) (b : m .body ≡ body.Set (withDecimals n (r .decimals))) (w : isWritable r ≡ true) (h : inRange (r .least) n (r .greatest) ≡ true) where
-      taken : answered ≡ offers m r n
-      unfolding serve setTo
-      taken = found (body.Set (withDecimals n (r .decimals))) b ∙ rw (w, eq-eqb (r .decimals) (r .decimals) refl, h)
+    module _ (r : Row) (f : entryIn bench maker (m .identifier) ≡ Found r) where
+      -- its entry is known
+      found : (b : Body) → m .body ≡ b → answered ≡ serve m (Found r) o (getD values (m .identifier) (pos 0)) b
+      found b e = served b e ∙ rw f
 
-      pub set-said : answered .said ≡ Reply (answerTo m Offered (Number (withDecimals (cut n (r .step)) (r .decimals))))
-      unfolding offers
-      set-said = ap (λ (x : Effect). x .said) taken
+      pub query-said : m .body ≡ body.Query → isReadable r ≡ true → answered .said ≡ Reply (answerTo m Accepted (Number (withDecimals (getD values (m .identifier) (pos 0)) (r .decimals))))
+      unfolding serve query says
+      query-said b h = ap (λ (x : Effect). x .said) (found body.Query b) ∙ rw h
 
-      pub set-leaves : answered .offer ≡ Held (m .identifier) (cut n (r .step))
-      unfolding offers
-      set-leaves = ap (λ (x : Effect). x .offer) taken
+      pub up-refused : m .body ≡ body.Up → isReadWrite r ≡ false → isReadable r ≡ true → answered .said ≡ Reply (answerTo m Declined (Number (withDecimals (getD values (m .identifier) (pos 0)) (r .decimals))))
+      unfolding serve up moves declines shownBy says
+      up-refused b k h = ap (λ (x : Effect). x .said) (found body.Up b) ∙ rw (k, h)
+
+      module _ (n : ℤ) (b : m .body ≡ body.Set (withDecimals n (r .decimals))) (w : isWritable r ≡ true) (h : inRange (r .least) n (r .greatest) ≡ true) where
+        taken : answered ≡ offers m r n
+        unfolding serve setTo
+        taken = found (body.Set (withDecimals n (r .decimals))) b ∙ rw (w, eq-eqb (r .decimals) (r .decimals) refl, h)
+
+        pub set-said : answered .said ≡ Reply (answerTo m Offered (Number (withDecimals (cut n (r .step)) (r .decimals))))
+        unfolding offers
+        set-said = ap (λ (x : Effect). x .said) taken
+
+        pub set-leaves : answered .offer ≡ Held (m .identifier) (cut n (r .step))
+        unfolding offers
+        set-leaves = ap (λ (x : Effect). x .offer) taken

@@ -1,8 +1,8 @@
 -- What a card does with a heard message: what it says, the offer afterwards, and what is stored. Document 01, "What the card does".
 -- e is the entry of the message's identifier in the sheets, v the value stored for it.
 use mathlib.Core.Bool.{Bool, cond, _&&_}
-use mathlib.Core.List.{List}
-use Prim.Native.Nat.{ℕ}
+use mathlib.Core.List.{List, [], _∷_}
+use Prim.Native.Nat.{ℕ, zero, suc}
 use lib.Dec.{eqb}
 use lib.IntN.{ℤ, pos}
 use lib.ListN.{getD}
@@ -19,8 +19,9 @@ use Rattle.sheet.specs.Values.{entryIn, isReadable, isWritable, isReadWrite}
 use Rattle.reply.specs.declared.Mark.{Mark}
 use Rattle.reply.specs.declared.Mark.the-variants.{Accepted, Offered, Declined}
 use Rattle.reply.specs.declared.Content.{Content}
-use Rattle.reply.specs.declared.Content.the-variants.{Empty, Number}
+use Rattle.reply.specs.declared.Content.the-variants.{Empty, Number, Four, Five}
 use Rattle.reply.specs.declared.Answer.{Answer}
+use Rattle.reply.specs.Reply.{scanIdentifier}
 use Rattle.act.specs.declared.Setup.{Setup}
 use Rattle.act.specs.declared.Offer.{Offer}
 use Rattle.act.specs.declared.Offer.the-variants.{Nothing, Held}
@@ -45,10 +46,14 @@ says m k x = record { said = Reply (answerTo m k x); offer = Nothing; store = Ke
 unfoldable pub accepts : Message → ℤ → ℕ → Effect
 accepts m z d = record { said = Reply (answerTo m Accepted (Number (withDecimals z d))); offer = Nothing; store = Put (m .identifier) z }
 
+-- `00000`
+abbrev pub noNumber : Content
+noNumber = Number (withDecimals (pos 0) 0)
+
 -- "`N` carries the stored value if the row exists and can be read, otherwise `00000`."
 unfoldable pub shownBy : Entry → ℤ → Content
-shownBy (Found r) v = cond (isReadable r) (Number (withDecimals v (r .decimals))) (Number (withDecimals (pos 0) 0))
-shownBy Missing v = Number (withDecimals (pos 0) 0)
+shownBy (Found r) v = cond (isReadable r) (Number (withDecimals v (r .decimals))) noNumber
+shownBy Missing v = noNumber
 
 -- `N`, offer gone
 unfoldable pub declines : Message → Entry → ℤ → Effect
@@ -103,15 +108,57 @@ serve m e o v body.Down = down m e v
 serve m e o v (body.Set x) = setTo m e v x
 serve m e o v body.Store = store m e o
 
+-- ---- the scan. Document 02, ticket 1: "A card names five identifiers for it, in order, repeats allowed; a 20-digit form with four"
+
+-- the k-th identifier that a card names
+abbrev pub named : Setup → ℕ → ℕ
+named c k = getD (c .scan) k 0
+
+-- n of them, from the k-th on
+unfoldable pub namesFrom : Setup → ℕ → ℕ → List ℕ
+namesFrom c k zero = []
+namesFrom c k (suc n) = named c k ∷ namesFrom c (suc k) n
+
+-- the value of an identifier, with the decimals of its row: e gives the entry of each identifier, v the value
+unfoldable pub valueOf : (ℕ → Entry) → (ℕ → ℤ) → ℕ → Decimal
+valueOf e v i = withDecimals (v i) (decimalsOf (e i))
+
+-- the values of the four or five identifiers that the card names
+unfoldable pub scanOf : Setup → (ℕ → Decimal) → Content
+scanOf c x =
+    cond (eqb (c .count) 4) (Four (x (named c 0)) (x (named c 1)) (x (named c 2)) (x (named c 3)))
+    (Five (x (named c 0)) (x (named c 1)) (x (named c 2)) (x (named c 3)) (x (named c 4)))
+
+-- "Otherwise a Type 2 or 3 on `]` is `N` with `00000`"
+unfoldable pub declinesScan : Message → Effect
+declinesScan m = says m Declined noNumber
+
+-- a message on `]`: "a Type 2 `?` on `]` answers .. five five-digit values and `A*`", where the card names some; "and a Type 4 is silence".
+-- Type 1 is never on `]`.
+unfoldable pub serveScan : Setup → Message → Content → Body → Effect
+serveScan c m x body.Status = declinesScan m
+serveScan c m x body.Query = cond (eqb (c .count) 0) (declinesScan m) (says m Accepted x)
+serveScan c m x body.Up = declinesScan m
+serveScan c m x body.Down = declinesScan m
+serveScan c m x (body.Set y) = declinesScan m
+serveScan c m x body.Store = silent
+
+-- ---- any message
+
 -- a message for this card: its letter and its address
 unfoldable pub isFor : Setup → Message → Bool
 isFor c m = eqb (m .letter) (c .letter) && eqb (m .address) (c .address)
 
--- "A heard message with another letter or address: silence, offer gone." The entry is that of its identifier, and the value what is
--- stored at its place.
-unfoldable pub respond : Setup → Offer → Entry → ℤ → Message → Effect
-respond c o e v m = cond (isFor c m) (serve m e o v (m .body)) silent
+-- "A heard message with another letter or address: silence, offer gone."
+unfoldable pub addressed : Setup → Message → Effect → Effect
+addressed c m x = cond (isFor c m) x silent
+
+-- e gives the entry of each identifier, and v the value stored at its place
+unfoldable pub respond : Setup → Offer → (ℕ → Entry) → (ℕ → ℤ) → Message → Effect
+respond c o e v m =
+    addressed c m
+    (cond (eqb (m .identifier) scanIdentifier) (serveScan c m (scanOf c (valueOf e v)) (m .body)) (serve m (e (m .identifier)) o (v (m .identifier)) (m .body)))
 
 -- under these sheets and values
 unfoldable pub act : List ℤ → List ℤ → Setup → Offer → List ℤ → Message → Effect
-act bench maker c o values m = respond c o (entryIn bench maker (m .identifier)) (getD values (m .identifier) (pos 0)) m
+act bench maker c o values m = respond c o (entryIn bench maker) (λ (i : ℕ). getD values i (pos 0)) m

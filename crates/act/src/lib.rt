@@ -4,7 +4,7 @@ ghost use lib.IntN.{pos};
 ghost use lib.ListN.{getD};
 ghost use Rattle.number.specs.Data.{withDecimals};
 ghost use Rattle.sheet.specs.Inner.{entryAt};
-ghost use Rattle.act.specs.Act.{silent, answerTo, says, accepts, shownBy, declines, query, moves, up, down, offers, setTo, decimalsOf, store, serve, isFor, respond};
+ghost use Rattle.act.specs.Act.{silent, answerTo, says, accepts, shownBy, declines, query, moves, up, down, offers, setTo, decimalsOf, store, serve, valueOf, scanOf, declinesScan, serveScan, isFor, addressed};
 use message::Body;
 use message::Message;
 use number::Decimal;
@@ -14,10 +14,15 @@ use reply::Mark;
 use sheet::Entry;
 use sheet::Row;
 
-// What a card is set to.
+// The most identifiers that a scan names.
+pub const MOST_NAMED: usize = 5;
+
+// What a card is set to; the first `count` of `scan` are the identifiers that it names for its scan.
 pub struct Setup {
     pub letter: u8,
     pub address: u8,
+    pub count: u8,
+    pub scan: [u8; MOST_NAMED],
 }
 
 // A number that a Type 3 message left, to be stored by a Type 4.
@@ -261,8 +266,99 @@ fn is_for(setup: Setup, message: Message) -> bool
     (message.letter == setup.letter) & (message.address == setup.address)
 }
 
-// What a heard message leads to, at a card with this setup and offer. `places` is an index of the two sheets.
-pub fn act<'a>(
+// The value of an identifier, with the decimals of its row. `places` is an index of the two sheets.
+fn value_of<'a>(
+    bench: &'a [i32],
+    maker: &'a [i32],
+    places: &[usize],
+    values: &[i32],
+    identifier: u8,
+) -> Decimal
+    ensures { λ r. ⌜ r ≡ valueOf (entryAt (now (bench .entry)) (now (maker .entry)) (now (places .entry))) (λ i. getD (now (values .entry)) i (pos 0)) identifier ⌝ }
+{
+    let entry = sheet::find_at(bench, maker, places, identifier);
+    let number = value_at(values, identifier);
+    let decimals = decimals_of(entry);
+    Decimal { number, decimals }
+}
+
+// The values of the identifiers that the card names, four or five.
+fn scan_of<'a>(
+    setup: Setup,
+    bench: &'a [i32],
+    maker: &'a [i32],
+    places: &[usize],
+    values: &[i32],
+) -> Content
+    ensures { λ r. ⌜ r ≡ scanOf setup (valueOf (entryAt (now (bench .entry)) (now (maker .entry)) (now (places .entry))) (λ i. getD (now (values .entry)) i (pos 0))) ⌝ }
+{
+    let names = setup.scan;
+    let a = value_of(bench, maker, places, values, names[0]);
+    let b = value_of(bench, maker, places, values, names[1]);
+    let c = value_of(bench, maker, places, values, names[2]);
+    let d = value_of(bench, maker, places, values, names[3]);
+    if setup.count == 4 {
+        return Content::Four(a, b, c, d);
+    }
+    let e = value_of(bench, maker, places, values, names[4]);
+    Content::Five(a, b, c, d, e)
+}
+
+fn declines_scan(message: Message) -> Effect
+    ensures { λ r. ⌜ r ≡ declinesScan message ⌝ }
+{
+    says(message, Mark::Declined, no_number())
+}
+
+// A message on `]`, by its type.
+fn serve_scan<'a>(
+    setup: Setup,
+    bench: &'a [i32],
+    maker: &'a [i32],
+    places: &[usize],
+    values: &[i32],
+    message: Message,
+) -> Effect
+    ensures { λ r. ⌜ r ≡ serveScan setup message (scanOf setup (valueOf (entryAt (now (bench .entry)) (now (maker .entry)) (now (places .entry))) (λ i. getD (now (values .entry)) i (pos 0)))) (message .body) ⌝ }
+{
+    let body = message.body;
+    match body {
+        Body::Status => declines_scan(message),
+        Body::Query => {
+            if setup.count == 0 {
+                declines_scan(message)
+            } else {
+                let content = scan_of(setup, bench, maker, places, values);
+                says(message, Mark::Accepted, content)
+            }
+        }
+        Body::Up => declines_scan(message),
+        Body::Down => declines_scan(message),
+        Body::Set(_) => declines_scan(message),
+        Body::Store => silent(),
+    }
+}
+
+// What a message on `]` leads to, at a card with this setup. It is apart from the others, so that they carry no room for five numbers.
+// `places` is an index of the two sheets.
+pub fn on_scan<'a>(
+    setup: Setup,
+    bench: &'a [i32],
+    maker: &'a [i32],
+    places: &[usize],
+    values: &[i32],
+    message: Message,
+) -> Effect
+    ensures { λ r. ⌜ r ≡ addressed setup message (serveScan setup message (scanOf setup (valueOf (entryAt (now (bench .entry)) (now (maker .entry)) (now (places .entry))) (λ i. getD (now (values .entry)) i (pos 0)))) (message .body)) ⌝ }
+{
+    if !is_for(setup, message) {
+        return silent();
+    }
+    serve_scan(setup, bench, maker, places, values, message)
+}
+
+// What a message on any other identifier leads to, at a card with this setup and offer.
+pub fn on_row<'a>(
     setup: Setup,
     offer: Offer,
     bench: &'a [i32],
@@ -271,7 +367,7 @@ pub fn act<'a>(
     values: &[i32],
     message: Message,
 ) -> Effect
-    ensures { λ r. ⌜ r ≡ respond setup offer (entryAt (now (bench .entry)) (now (maker .entry)) (now (places .entry)) (message .identifier)) (getD (now (values .entry)) (message .identifier) (pos 0)) message ⌝ }
+    ensures { λ r. ⌜ r ≡ addressed setup message (serve message (entryAt (now (bench .entry)) (now (maker .entry)) (now (places .entry)) (message .identifier)) offer (getD (now (values .entry)) (message .identifier) (pos 0)) (message .body)) ⌝ }
 {
     if !is_for(setup, message) {
         return silent();

@@ -1,13 +1,16 @@
 -- What a sound card and a sound offer are, by their parts, and what a word leaves of a sound card with sound values: both are sound
 -- again, no place without a row is touched, and what the card says is an answer as the reader knows them. Assumes nothing.
-use mathlib.Core.Path.{_≡_, refl, sym, ap, _∙_}
-use mathlib.Core.Bool.{true, false≢true}
+use mathlib.Core.Path.{_≡_, refl, sym, ap, _∙_, subst}
+use mathlib.Core.Bool.{Bool, true, false, not, _||_, false≢true}
 use mathlib.Core.List.{List}
-use Prim.Native.Nat.{ℕ}
+use Prim.Native.Nat.{ℕ, zero, suc, _+_, _<_, _≤_}
 use native.Mathlib.Omega.{arith}
+use borrow.Author.Tests.{eqb-true, ltb-true, ltb-false}
+use lib.Dec.{ltb, eqb}
 use lib.IntN.{ℤ, pos}
 use lib.ListN.{getD}
-use Rattle.refusal.proofs.Logic.{ands, and-both}
+use Rattle.refusal.specs.Lists.{every}
+use Rattle.refusal.proofs.Logic.{ands, and-both, and-left, and-right, by-test}
 use Rattle.message.specs.declared.Message.{Message}
 use Rattle.message.specs.declared.Parsed.{Parsed}
 use Rattle.message.specs.declared.Parsed.the-variants.{Heard, Unheard}
@@ -21,22 +24,23 @@ use Rattle.hearing.proofs.Sound.{hear-sound}
 use Rattle.sheet.specs.declared.Row.{Row}
 use Rattle.sheet.specs.declared.Entry.{Entry}
 use Rattle.sheet.specs.declared.Entry.the-variants.{Found, Missing}
-use Rattle.sheet.specs.Values.{entryIn, isWritable, soundValues}
-use Rattle.sheet.proofs.Values.{entry-sound, cut-fits, set-sound, set-elsewhere}
+use Rattle.sheet.specs.Lookup.{hasRow}
+use Rattle.sheet.specs.Values.{entryIn, isReadable, isReadableEntry, isWritable, soundValues}
+use Rattle.sheet.proofs.Values.{entry-absent, entry-sound, cut-fits, set-sound, set-elsewhere}
 use Rattle.reply.specs.declared.Answer.{Answer}
-use Rattle.reply.specs.Reply.{isAnswer}
+use Rattle.reply.specs.Reply.{scanIdentifier, isAnswer}
 use Rattle.act.specs.declared.Setup.{Setup}
 use Rattle.act.specs.declared.Offer.{Offer}
 use Rattle.act.specs.declared.Offer.the-variants.{Nothing, Held}
 use Rattle.act.specs.declared.Said.the-variants.{Reply}
 use Rattle.act.specs.declared.Store.{Store}
 use Rattle.act.specs.declared.Store.the-variants.{Keep, Put}
-use Rattle.act.specs.Act.{act}
+use Rattle.act.specs.Act.{named, namesFrom, act}
 use Rattle.act.proofs.OnOffer.{Leaves, act-leaves}
-use Rattle.act.proofs.Effects.{Allowed, Fair, Good, good-silence, good-act}
+use Rattle.act.proofs.Effects.{Allowed, Fair, FairScan, Good, good-silence, good-act}
 use Rattle.card.specs.declared.Card.{Card}
 use Rattle.card.specs.Turn.{effectOf, turn, stored}
-use Rattle.card.specs.Refusals.{soundSetup, soundCard, offerable, soundOffer}
+use Rattle.card.specs.Refusals.{soundSetup, soundCard, offerable, soundOffer, noScanRow, soundScan}
 use Rattle.card.proofs.Turns.{effects, turn-card, turn-store}
 
 -- ---- a sound card
@@ -101,6 +105,68 @@ module _ (bench maker : List ℤ) where
       go Nothing e = nothing-sound bench maker
       go (Held i z) e = leaves-sound m i z (act-leaves bench maker m s o values i z e)
 
+-- ---- the scan
+
+-- each of the identifiers that are tested
+names-each : (f : ℕ → Bool) (s : Setup) (j n k : ℕ) → every f (namesFrom s j n) ≡ true → j ≤ k → k < j + n → f (named s k) ≡ true
+unfolding namesFrom every
+names-each f s j zero k e h l = absurd (nowhere j k h l)
+  where
+    nowhere : (j k : ℕ) → j ≤ k → k < j + 0 → ⊥
+    nowhere j k h l = omega arith
+names-each f s j (suc n) k e h l =
+    by-test (ltb j k)
+    (λ t. let b = ltb-true j k t in names-each f s (suc j) n k (and-right (f (named s j)) (every f (namesFrom s (suc j) n)) e) (omega arith) (omega arith))
+    (λ t. let q : j ≡ k = omega (arith, ltb-false j k t) in subst (λ (x : ℕ). f (named s x) ≡ true) q (and-left (f (named s j)) (every f (namesFrom s (suc j) n)) e))
+
+each-name : (f : ℕ → Bool) (s : Setup) (j n : ℕ) → ((k : ℕ) → k < j + n → f (named s k) ≡ true) → every f (namesFrom s j n) ≡ true
+unfolding namesFrom every
+each-name f s j zero h = refl
+each-name f s j (suc n) h = and-both (h j (omega arith)) (each-name f s (suc j) n (λ k l. h k (omega arith)))
+
+entry-read : (e : Entry) → isReadableEntry e ≡ true → (r : Row) × (e ≡ Found r)
+unfolding isReadableEntry
+entry-read (Found r) h = (r, refl)
+entry-read Missing h = absurd (false≢true h)
+
+scan-fair : (bench maker : List ℤ) (s : Setup) → soundScan bench maker s ≡ true → FairScan bench maker s
+unfolding soundScan
+scan-fair bench maker s e = record {
+  many = search ands;
+  rows = λ k h. entry-read (entryIn bench maker (named s k)) (names-each (λ (i : ℕ). isReadableEntry (entryIn bench maker i)) s 0 (s .count) k (search ands) (omega arith) (omega arith));
+}
+
+found-missing : {r : Row} → Found r ≡ Missing → ⊥
+found-missing e = let n : _≡_ {A = ℕ} 0 1 = cc in omega arith
+
+module _ (bench maker : List ℤ) where
+  pub no-scan-row : hasRow bench scanIdentifier ≡ false → hasRow maker scanIdentifier ≡ false → noScanRow bench maker ≡ true
+  no-scan-row p q = rw (p, q)
+
+  -- so an identifier with a row is another
+  pub row-no-scan : noScanRow bench maker ≡ true → (i : ℕ) (r : Row) → entryIn bench maker i ≡ Found r → eqb i scanIdentifier ≡ false
+  row-no-scan e i r f =
+      let p = neither (hasRow bench scanIdentifier) (hasRow maker scanIdentifier) e in
+      by-test (eqb i scanIdentifier)
+      (λ q. absurd (found-missing (sym f ∙ ap (entryIn bench maker) (eqb-true i scanIdentifier q) ∙ entry-absent bench maker scanIdentifier (p .0) (p .1))))
+      (λ q. q)
+    where
+      neither : (a b : Bool) → not (a || b) ≡ true → (a ≡ false) × (b ≡ false)
+      neither true b e = absurd (false≢true e)
+      neither false true e = absurd (false≢true e)
+      neither false false e = (refl, refl)
+
+  module _ (e : noScanRow bench maker ≡ true) (s : Setup) where
+    -- a scan whose identifiers all have a row that can be read
+    pub readable-scan : (eqb (s .count) 0 || eqb (s .count) 4 || eqb (s .count) 5) ≡ true → ((k : ℕ) → k < s .count → (r : Row) × (entryIn bench maker (named s k) ≡ Found r) × (isReadable r ≡ true)) → soundScan bench maker s ≡ true
+    unfolding soundScan isReadableEntry
+    readable-scan n h =
+        and-both (and-both e n) (each-name (λ (i : ℕ). isReadableEntry (entryIn bench maker i)) s 0 (s .count) (λ k l. let x = h k (omega arith) in rw (x .1) (x .2)))
+
+    -- none named
+    pub no-scan : s .count ≡ 0 → soundScan bench maker s ≡ true
+    no-scan z = readable-scan (rw z refl) (λ k l. absurd (omega arith))
+
 -- ---- values after a store
 
 module _ (bench maker values : List ℤ) where
@@ -118,10 +184,7 @@ module _ (bench maker values : List ℤ) where
   stored-elsewhere Keep h k e = refl
   stored-elsewhere (Put i z) h k e =
       let a = h i z refl in
-      set-elsewhere values i k z (λ (q : k ≡ i). never (a .row) (sym (a .found) ∙ ap (entryIn bench maker) (sym q) ∙ e))
-    where
-      never : (r : Row) → Found r ≡ Missing → ⊥
-      never r e = let n : _≡_ {A = ℕ} 0 1 = cc in omega arith
+      set-elsewhere values i k z (λ (q : k ≡ i). found-missing (sym (a .found) ∙ ap (entryIn bench maker) (sym q) ∙ e))
 
 -- ---- a word
 
@@ -131,10 +194,10 @@ module _ (bench maker : List ℤ) (c : Card) (values : List ℤ) (h : soundOffer
   effect-offer (Heard m) = act-sound bench maker (c .setup) (c .offer) values m
   effect-offer Unheard = h
 
-  module _ (v : soundValues bench maker values ≡ true) where
+  module _ (n : soundScan bench maker (c .setup) ≡ true) (v : soundValues bench maker values ≡ true) where
     effect-good : (p : Parsed) → Heard-is p → Good bench maker (effects bench maker c values p)
     unfolding effectOf
-    effect-good (Heard m) e = good-act bench maker values v m (parts m e) (c .setup) (c .offer) (offer-fair bench maker (c .offer) h)
+    effect-good (Heard m) e = good-act bench maker values v m (parts m e) (c .setup) (c .offer) (scan-fair bench maker (c .setup) n) (offer-fair bench maker (c .offer) h)
     effect-good Unheard e = good-silence bench maker (c .offer)
 
     module _ (w : ℕ) where

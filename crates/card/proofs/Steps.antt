@@ -19,7 +19,7 @@ use Rattle.sheet.specs.Values.{soundValues}
 use Rattle.card.specs.declared.Card.{Card}
 use Rattle.card.specs.Turn.{turn, stored, play}
 use Rattle.card.proofs.Turns.{stays}
-use Rattle.card.specs.Refusals.{soundCard, soundOffer, cardChecks, roomCheck, stepChecks}
+use Rattle.card.specs.Refusals.{soundCard, soundOffer, soundScan, cardChecks, roomCheck, stepChecks}
 use Rattle.card.specs.Calls.{After, kept, answered, stepCall, ended, runCall}
 
 -- a test that is passed
@@ -47,24 +47,30 @@ module _ (c : Card) (bench maker values : List ℤ) (ws : List ℕ) where
       offer-unsound e = rw (p, q, e)
 
       module _ (r : soundOffer bench maker (c .offer) ≡ true) where
-        pub values-unsound : soundValues bench maker values ≡ false → outcome ≡ refused 3
+        pub scan-unsound : soundScan bench maker (c .setup) ≡ false → outcome ≡ refused 1
         unfolding cardChecks first
-        values-unsound e = rw (p, q, r, e)
+        scan-unsound e = rw (p, q, r, e)
 
-        module _ (s : soundValues bench maker values ≡ true) where
-          pub word-above : validWords ws ≡ false → outcome ≡ refused 4
+        module _ (n : soundScan bench maker (c .setup) ≡ true) where
+          pub values-unsound : soundValues bench maker values ≡ false → outcome ≡ refused 3
           unfolding cardChecks first
-          word-above e = rw (p, q, r, s, e)
+          values-unsound e = rw (p, q, r, n, e)
 
-          pub all-sound : validWords ws ≡ true → outcome ≡ gave tt
-          unfolding cardChecks first
-          all-sound e = rw (p, q, r, s, e)
+          module _ (s : soundValues bench maker values ≡ true) where
+            pub word-above : validWords ws ≡ false → outcome ≡ refused 4
+            unfolding cardChecks first
+            word-above e = rw (p, q, r, n, s, e)
+
+            pub all-sound : validWords ws ≡ true → outcome ≡ gave tt
+            unfolding cardChecks first
+            all-sound e = rw (p, q, r, n, s, e)
 
   -- what a call that passed has
   pub record Passes : Type 0 where
     pub card-sound : soundCard c ≡ true
     pub sheets-sound : (soundSheet bench && soundSheet maker) ≡ true
     pub offer-sound : soundOffer bench maker (c .offer) ≡ true
+    pub scan-sound : soundScan bench maker (c .setup) ≡ true
     pub values-sound : soundValues bench maker values ≡ true
     pub words-valid : validWords ws ≡ true
 
@@ -73,11 +79,13 @@ module _ (c : Card) (bench maker values : List ℤ) (ws : List ℕ) where
       by-test (soundCard c)
       (λ p. by-test (soundSheet bench && soundSheet maker)
       (λ q. by-test (soundOffer bench maker (c .offer))
-      (λ r. by-test (soundValues bench maker values)
+      (λ r. by-test (soundScan bench maker (c .setup))
+      (λ n. by-test (soundValues bench maker values)
       (λ s. by-test (validWords ws)
-      (λ t. record { card-sound = p; sheets-sound = q; offer-sound = r; values-sound = s; words-valid = t })
-      (λ t. absurd (refused-gave (sym (word-above p q r s t) ∙ e))))
-      (λ s. absurd (refused-gave (sym (values-unsound p q r s) ∙ e))))
+      (λ t. record { card-sound = p; sheets-sound = q; offer-sound = r; scan-sound = n; values-sound = s; words-valid = t })
+      (λ t. absurd (refused-gave (sym (word-above p q r n s t) ∙ e))))
+      (λ s. absurd (refused-gave (sym (values-unsound p q r n s) ∙ e))))
+      (λ n. absurd (refused-gave (sym (scan-unsound p q r n) ∙ e))))
       (λ r. absurd (refused-gave (sym (offer-unsound p q r) ∙ e))))
       (λ q. absurd (refused-gave (sym (sheet-unsound p q) ∙ e))))
       (λ p. absurd (refused-gave (sym (card-unsound p) ∙ e)))

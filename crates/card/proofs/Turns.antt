@@ -1,19 +1,19 @@
 -- One word, by what it does and by what it has closed: the laws that the code of a word and of a run cites. Assumes nothing.
 use mathlib.Core.Path.{_≡_, refl, sym, ap, _∙_, subst}
-use mathlib.Core.Bool.{true}
+use mathlib.Core.Bool.{true, false}
 use mathlib.Core.List.{List, []}
 use Prim.Native.Nat.{ℕ, _≤_}
-use lib.Dec.{lit≤}
+use lib.Dec.{eqb, lit≤}
 use lib.IntN.{ℤ, pos}
 use lib.ListN.{length, getD}
 use Rattle.wire.specs.Word.{travelling}
 use Rattle.wire.proofs.Words.{travelling-length}
-use Rattle.sheet.specs.declared.Entry.{Entry}
 use Rattle.sheet.specs.Sheet.{soundSheet}
+use Rattle.sheet.specs.Values.{entryIn}
 use Rattle.sheet.specs.Inner.{entryAt, indexOf}
 use Rattle.sheet.proofs.Marks.{index-entry}
 use Rattle.reply.specs.declared.Answer.{Answer}
-use Rattle.reply.specs.Reply.{longestReply, spellAnswer}
+use Rattle.reply.specs.Reply.{longestReply, scanIdentifier, spellAnswer}
 use Rattle.reply.proofs.Spelled.{answer-length}
 use Rattle.message.specs.declared.Parsed.{Parsed}
 use Rattle.message.specs.declared.Parsed.the-variants.{Heard, Unheard}
@@ -29,7 +29,8 @@ use Rattle.act.specs.declared.Said.{Said}
 use Rattle.act.specs.declared.Said.the-variants.{Silence, Reply}
 use Rattle.act.specs.declared.Effect.{Effect}
 use Rattle.act.specs.declared.Store.the-variants.{Keep}
-use Rattle.act.specs.Act.{respond, act}
+use Rattle.act.specs.Act.{serve, valueOf, scanOf, serveScan, addressed, respond, act}
+use Rattle.act.proofs.OnOffer.{scan-responds, row-responds}
 use Rattle.card.specs.declared.Card.{Card}
 use Rattle.card.specs.Turn.{Turn, replyOf, effectOf, withBoth, turned, turn}
 
@@ -55,13 +56,22 @@ module _ (bench maker : List ℤ) where
     unfolding effectOf
     effect-unheard = refl
 
-    -- under sound sheets the index gives the entry
-    pub effect-index : (places : List ℕ) (m : Message) → soundSheet bench ≡ true → soundSheet maker ≡ true → places ≡ indexOf bench maker
-        → respond s o (entryAt bench maker places (m .identifier)) (getD values (m .identifier) (pos 0)) m ≡ effectOf bench maker s o values (Heard m)
+    -- under sound sheets the index gives the entries
+    effect-index : (places : List ℕ) (m : Message) → soundSheet bench ≡ true → soundSheet maker ≡ true → places ≡ indexOf bench maker
+        → respond s o (entryAt bench maker places) (λ (i : ℕ). getD values i (pos 0)) m ≡ effectOf bench maker s o values (Heard m)
     unfolding effectOf act
     effect-index places m b k e =
-        ap (λ (x : Entry). respond s o x (getD values (m .identifier) (pos 0)) m)
-        (ap (λ (l : List ℕ). entryAt bench maker l (m .identifier)) e ∙ index-entry bench maker (m .identifier) b k)
+        let each : (i : ℕ) → entryAt bench maker places i ≡ entryIn bench maker i = λ i. ap (λ (l : List ℕ). entryAt bench maker l i) e ∙ index-entry bench maker i b k in
+        λ j. respond s o (λ (i : ℕ). each i j) (λ (i : ℕ). getD values i (pos 0)) m
+
+    module _ (places : List ℕ) (m : Message) (b : soundSheet bench ≡ true) (k : soundSheet maker ≡ true) (e : places ≡ indexOf bench maker) where
+      pub effect-scan : eqb (m .identifier) scanIdentifier ≡ true
+          → addressed s m (serveScan s m (scanOf s (valueOf (entryAt bench maker places) (λ (i : ℕ). getD values i (pos 0)))) (m .body)) ≡ effectOf bench maker s o values (Heard m)
+      effect-scan q = scan-responds s o (entryAt bench maker places) (λ (i : ℕ). getD values i (pos 0)) m q ∙ effect-index places m b k e
+
+      pub effect-row : eqb (m .identifier) scanIdentifier ≡ false
+          → addressed s m (serve m (entryAt bench maker places (m .identifier)) o (getD values (m .identifier) (pos 0)) (m .body)) ≡ effectOf bench maker s o values (Heard m)
+      effect-row q = row-responds s o (entryAt bench maker places) (λ (i : ℕ). getD values i (pos 0)) m q ∙ effect-index places m b k e
 
   -- ---- a word
 

@@ -1,13 +1,22 @@
 -- What only the private functions of this crate use: no public contract cites it.
-use mathlib.Core.Bool.{cond}
+use mathlib.Core.Bool.{Bool, false, cond}
 use mathlib.Core.List.{List}
 use Prim.Native.Nat.{ℕ}
+use lib.Dec.{eqb}
 use lib.IntN.{ℤ}
 use lib.ListN.{length}
 use Rattle.refusal.specs.Refusal.{Outcome, refused, gave}
 use Rattle.refusal.specs.Buffer.{fitsAt, placed}
+use Rattle.message.specs.declared.Parsed.{Parsed}
+use Rattle.message.specs.declared.Parsed.the-variants.{Heard, Unheard}
+use Rattle.reply.specs.Reply.{scanIdentifier}
 use Rattle.act.specs.declared.Effect.{Effect}
 use Rattle.card.specs.Turn.{replyOf, stored}
+
+-- a message on `]`
+unfoldable pub isScan : Parsed → Bool
+isScan (Heard m) = eqb (m .identifier) scanIdentifier
+isScan Unheard = false
 
 -- what an effect comes to at a place of the buffer: the bytes of its reply or a refusal, the values and the buffer afterwards
 pub record Settled : Type 0 where

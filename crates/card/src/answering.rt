@@ -1,6 +1,6 @@
 // What a closed message leads to, decided, then said, then done; and the words of a run.
 ghost use mathlib.Core.Path.{_≡_};
-ghost use mathlib.Core.Bool.{true};
+ghost use mathlib.Core.Bool.{true, false};
 ghost use lib.ListN.{length};
 ghost use Prim.Native.Nat.{_≤_};
 ghost use Rattle.refusal.specs.Refusal.{outcomeOf};
@@ -9,7 +9,7 @@ ghost use Rattle.reply.specs.Reply.{longestReply};
 ghost use Rattle.sheet.specs.Sheet.{soundSheet};
 ghost use Rattle.sheet.specs.Inner.{indexOf};
 ghost use Rattle.card.specs.Turn.{replyOf, effectOf, turned, stored, play};
-ghost use Rattle.card.specs.Inner.{settles};
+ghost use Rattle.card.specs.Inner.{settles, isScan};
 ghost use Rattle.card.specs.Calls.{stepAfter, answered, runAfter, ended};
 use crate::Card;
 use crate::Ran;
@@ -38,7 +38,45 @@ fn say(said: Said, out: &mut [u8], at: usize) -> Written
     reply::place(answer, out, at)
 }
 
-// What a closed message leads to, at a card with this setup and offer. `places` is the index of the two sheets.
+// What is closed and not heard leads to.
+fn unheard(offer: Offer) -> Effect
+    ensures { λ r. ⌜ r ≡ record { said = Said.Silence; offer = offer; store = Store.Keep } ⌝ }
+{
+    let said = Said::Silence;
+    let store = Store::Keep;
+    Effect { said, offer, store }
+}
+
+// A message on `]`.
+fn is_scan(parsed: Parsed) -> bool
+    ensures { λ r. ⌜ r ≡ isScan parsed ⌝ }
+{
+    let Parsed::Heard(message) = parsed else {
+        return false;
+    };
+    message.identifier == b']'
+}
+
+// What a closed message on `]` leads to, at a card with this setup and offer. `places` is the index of the two sheets.
+fn scan_effect<'a>(
+    setup: Setup,
+    offer: Offer,
+    bench: &'a [i32],
+    maker: &'a [i32],
+    places: &[usize],
+    values: &[i32],
+    parsed: Parsed,
+) -> Effect
+    requires { ⌜ (soundSheet (now bench) ≡ true) × (soundSheet (now maker) ≡ true) × (now places ≡ indexOf (now bench) (now maker)) × (isScan parsed ≡ true) ⌝ }
+    ensures { λ r. ⌜ r ≡ effectOf (now (bench .entry)) (now (maker .entry)) setup offer (now (values .entry)) parsed ⌝ }
+{
+    let Parsed::Heard(message) = parsed else {
+        return unheard(offer);
+    };
+    act::on_scan(setup, bench, maker, places, values, message)
+}
+
+// What any other leads to.
 fn effect_of<'a>(
     setup: Setup,
     offer: Offer,
@@ -48,15 +86,13 @@ fn effect_of<'a>(
     values: &[i32],
     parsed: Parsed,
 ) -> Effect
-    requires { ⌜ (soundSheet (now bench) ≡ true) × (soundSheet (now maker) ≡ true) × (now places ≡ indexOf (now bench) (now maker)) ⌝ }
+    requires { ⌜ (soundSheet (now bench) ≡ true) × (soundSheet (now maker) ≡ true) × (now places ≡ indexOf (now bench) (now maker)) × (isScan parsed ≡ false) ⌝ }
     ensures { λ r. ⌜ r ≡ effectOf (now (bench .entry)) (now (maker .entry)) setup offer (now (values .entry)) parsed ⌝ }
 {
     let Parsed::Heard(message) = parsed else {
-        let said = Said::Silence;
-        let store = Store::Keep;
-        return Effect { said, offer, store };
+        return unheard(offer);
     };
-    act::act(setup, offer, bench, maker, places, values, message)
+    act::on_row(setup, offer, bench, maker, places, values, message)
 }
 
 // The one write to the values.
@@ -101,7 +137,11 @@ pub(crate) fn answer<'a>(
     let setup = card.setup;
     let held = card.offer;
     let places = sheet::index(bench, maker);
-    let effect = effect_of(setup, held, bench, maker, &places, values, parsed);
+    let effect = if is_scan(parsed) {
+        scan_effect(setup, held, bench, maker, &places, values, parsed)
+    } else {
+        effect_of(setup, held, bench, maker, &places, values, parsed)
+    };
     let offer = effect.offer;
     let card = card.hold(offer);
     match settle(effect, values, out, 0) {
@@ -157,18 +197,23 @@ pub(crate) fn take_all<'a>(
     if words.len() <= halt.at {
         return so_far(setup, offer, chars, halt, 0);
     }
-    let places = sheet::index(bench, maker);
+    let index = sheet::index(bench, maker);
+    let places = &index[..];
     let mut at = 0;
     while halt.at < words.len() {
         let parsed = hearing::closed(&chars, halt.len);
-        let effect = effect_of(setup, offer, bench, maker, &places, values, parsed);
+        let effect = if is_scan(parsed) {
+            scan_effect(setup, offer, bench, maker, places, values, parsed)
+        } else {
+            effect_of(setup, offer, bench, maker, places, values, parsed)
+        };
         let Written::Wrote(n) = settle(effect, values, out, at) else {
             return so_far(setup, offer, chars, halt, at);
         };
-        at += n;
         offer = effect.offer;
         chars = [0u8; hearing::MOST];
         halt = hearing::to_close(&mut chars, 0, words, halt.at + 1);
+        at += n;
     }
     so_far(setup, offer, chars, halt, at)
 }

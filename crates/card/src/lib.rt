@@ -3,11 +3,13 @@ ghost use mathlib.Core.Path.{_≡_};
 ghost use mathlib.Core.Bool.{true};
 ghost use mathlib.Core.List.{[], _∷_};
 ghost use Rattle.refusal.specs.Refusal.{verdictOf};
+ghost use Rattle.refusal.specs.Lists.{every};
 ghost use Rattle.refusal.specs.Check.{first, decided};
 ghost use Rattle.hearing.specs.Hearing.{none, added};
 ghost use Rattle.sheet.specs.Sheet.{soundSheet};
+ghost use Rattle.sheet.specs.Values.{entryIn, isReadableEntry};
 ghost use Rattle.card.specs.Turn.{withBoth, turn};
-ghost use Rattle.card.specs.Refusals.{soundSetup, soundCard, soundOffer, cardChecks, roomCheck};
+ghost use Rattle.card.specs.Refusals.{soundSetup, soundCard, soundOffer, soundScan, cardChecks, roomCheck};
 ghost use Rattle.card.specs.Calls.{kept, stepOutcome, stepAfter, answered, stepCall, runAfter, runCall};
 use act::Offer;
 use act::Setup;
@@ -154,7 +156,47 @@ pub fn sound_offer<'a>(bench: &'a [i32], maker: &'a [i32], offer: Offer) -> bool
     sheet::is_writable(row) & sheet::fits_row(row, value)
 }
 
-// Numbers 1, 2, 1 (the offer), 3 and 4, in this order.
+// Whether the identifier has a row that can be read.
+fn is_readable<'a>(bench: &'a [i32], maker: &'a [i32], identifier: u8) -> bool
+    ensures { λ r. ⌜ r ≡ isReadableEntry (entryIn (now (bench .entry)) (now (maker .entry)) identifier) ⌝ }
+{
+    let Entry::Found(named) = sheet::find(bench, maker, identifier) else {
+        return false;
+    };
+    sheet::is_readable(named)
+}
+
+// Four identifiers that all have rows that can be read.
+fn four_readable<'a>(bench: &'a [i32], maker: &'a [i32], a: u8, b: u8, c: u8, d: u8) -> bool
+    ensures { λ r. ⌜ r ≡ every (λ i. isReadableEntry (entryIn (now (bench .entry)) (now (maker .entry)) i)) (a ∷ b ∷ c ∷ d ∷ []) ⌝ }
+{
+    is_readable(bench, maker, a)
+        & (is_readable(bench, maker, b)
+            & (is_readable(bench, maker, c) & is_readable(bench, maker, d)))
+}
+
+// The identifiers that a card names for its scan, and `]` without a row.
+pub fn sound_scan<'a>(bench: &'a [i32], maker: &'a [i32], setup: Setup) -> bool
+    ensures { λ r. ⌜ r ≡ soundScan (now (bench .entry)) (now (maker .entry)) setup ⌝ }
+{
+    if sheet::has_row(bench, b']') | sheet::has_row(maker, b']') {
+        return false;
+    }
+    let names = setup.scan;
+    if setup.count == 0 {
+        return true;
+    }
+    if setup.count == 4 {
+        return four_readable(bench, maker, names[0], names[1], names[2], names[3]);
+    }
+    if setup.count != 5 {
+        return false;
+    }
+    is_readable(bench, maker, names[0])
+        & four_readable(bench, maker, names[1], names[2], names[3], names[4])
+}
+
+// Numbers 1, 2, 1 (the offer, the scan), 3 and 4, in this order.
 pub fn check<'a>(
     card: Card,
     bench: &'a [i32],
@@ -172,6 +214,10 @@ pub fn check<'a>(
     }
     let offer = card.offer;
     if !sound_offer(bench, maker, offer) {
+        return Verdict::Refused(Refusal::UnsoundCard);
+    }
+    let setup = card.setup;
+    if !sound_scan(bench, maker, setup) {
         return Verdict::Refused(Refusal::UnsoundCard);
     }
     if !sheet::sound_values(bench, maker, values) {

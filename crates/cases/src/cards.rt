@@ -1,7 +1,9 @@
-// The cards of the cases: the sheets, the values at the start, and the letter of each.
+// The cards of the cases: the sheets, the values at the start, the letter and the scan of each.
 use crate::player::Outcome;
 use crate::player::both;
+use crate::reader::address_of;
 use crate::reader::field;
+use act::Setup;
 
 // Document 01, "Bench cases". A row: identifier, access, decimals, step, least, greatest.
 const BENCH: [[i32; 6]; 4] = [
@@ -18,6 +20,26 @@ const TABLE: [[i32; 6]; 4] = [
     [99, 2, 2, 1, -9999, 9999], // `c`
     [100, 2, 3, 1, -9999, 9999], // `d`
 ];
+
+// Identifiers for scans: none, five and four of the bench rows, and the four rows for Table 5-1.
+const NO_SCAN: [u8; 5] = [0, 0, 0, 0, 0];
+
+const FIVE: [u8; 5] = [b'M', b'm', b'J', b'J', b'M'];
+
+const FOUR: [u8; 5] = [b'J', b'm', b'M', b'J', 0];
+
+const DECIMALS: [u8; 5] = [b'a', b'b', b'c', b'd', 0];
+
+// The setup of a card whose address stands in the line.
+fn setup_of(line: &[u8], letter: u8, count: u8, scan: [u8; 5]) -> Setup {
+    let address = address_of(field(line, 1));
+    Setup {
+        letter,
+        address,
+        count,
+        scan,
+    }
+}
 
 // The rows, one after the other.
 fn sheet_of(rows: [[i32; 6]; 4]) -> [i32; 24] {
@@ -39,23 +61,24 @@ fn bench_values() -> [i32; 128] {
     values
 }
 
-fn on_bench(line: &[u8]) -> Outcome {
+fn on_bench(setup: Setup, line: &[u8]) -> Outcome {
     let sheet = sheet_of(BENCH);
     let none = [0i32; 0];
-    both(b'L', &sheet, &none, bench_values(), line)
+    both(setup, &sheet, &none, bench_values(), line)
 }
 
 fn on_table(line: &[u8]) -> Outcome {
     let sheet = sheet_of(TABLE);
     let none = [0i32; 0];
-    both(b'L', &none, &sheet, [0; 128], line)
+    let setup = setup_of(line, b'L', 4, DECIMALS);
+    both(setup, &none, &sheet, [0; 128], line)
 }
 
-fn on_controller(line: &[u8]) -> Outcome {
+fn on_controller(setup: Setup, line: &[u8]) -> Outcome {
     let sheet = models::dcp100_controller();
     let none = [0i32; 0];
     both(
-        b'L',
+        setup,
         &none,
         &sheet,
         models::dcp100_controller_values(),
@@ -66,8 +89,9 @@ fn on_controller(line: &[u8]) -> Outcome {
 fn on_programmer(line: &[u8]) -> Outcome {
     let sheet = models::dcp100_programmer();
     let none = [0i32; 0];
+    let setup = setup_of(line, b'R', 0, NO_SCAN);
     both(
-        b'R',
+        setup,
         &none,
         &sheet,
         models::dcp100_programmer_values(),
@@ -78,7 +102,8 @@ fn on_programmer(line: &[u8]) -> Outcome {
 fn on_indicator(line: &[u8]) -> Outcome {
     let sheet = models::udi1500();
     let none = [0i32; 0];
-    both(b'L', &none, &sheet, models::udi1500_values(), line)
+    let setup = setup_of(line, b'L', 5, models::udi1500_scan());
+    both(setup, &none, &sheet, models::udi1500_values(), line)
 }
 
 // A case, by its card.
@@ -88,8 +113,17 @@ pub(crate) fn play(line: &[u8]) -> Outcome {
         return Outcome::Differs(0);
     }
     match card[0] {
-        b'B' => on_bench(line),
-        b'C' => on_controller(line),
+        b'B' => on_bench(setup_of(line, b'L', 0, NO_SCAN), line),
+        b'E' => on_bench(setup_of(line, b'L', 5, FIVE), line),
+        b'F' => on_bench(setup_of(line, b'R', 4, FOUR), line),
+        b'C' => on_controller(
+            setup_of(line, b'L', 5, models::dcp100_controller_scan()),
+            line,
+        ),
+        b'D' => on_controller(
+            setup_of(line, b'L', 4, models::dcp100_one_output_scan()),
+            line,
+        ),
         b'P' => on_programmer(line),
         b'U' => on_indicator(line),
         b'T' => on_table(line),

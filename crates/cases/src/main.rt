@@ -1,12 +1,22 @@
-// The bench cases of document 01 and the worked examples of the manuals, played through the public calls. Each case is played twice
-// from the start: `card::run` takes each message at once, and `card::step` takes it word by word.
+// The bench cases of document 01, cases of the requests and the worked examples of the manuals, played through the public calls. Each
+// case is played twice from the start: `card::run` takes each message at once, and `card::step` takes it word by word.
 //
 // Standard input has a line for each case, in fields with one space between them:
 //
 //     NAME CARD CHANGE SENT ANSWER SENT ANSWER ..
 //
-// CARD is B (the rows of document 01's bench cases), C (DCP 100 controller), P (DCP 100 programmer), U (UDI 1500) or T (rows `a` to
-// `d` for Table 5-1), and behind it the address where that isn't 7, as `C33`. Letter `L`, or `R` for P; no message open and no offer.
+// CARD is one of these, and behind it the address where that isn't 7, as `C33`:
+//
+//     B  the rows of document 01's bench cases; no scan
+//     E  the same rows; scan `M` `m` `J` `J` `M`
+//     F  the same rows, letter `R`; scan `J` `m` `M` `J`
+//     C  DCP 100 controller with two outputs; scan `S` `M` `W` `W` `L`
+//     D  the sheet of C; scan `S` `M` `W` `L`, that of a controller with one output
+//     P  DCP 100 programmer, letter `R`; no scan
+//     U  UDI 1500; scan `M` `A` `B` `T` `L`
+//     T  rows `a` to `d` for Table 5-1; scan `a` `b` `c` `d`
+//
+// The letter is `L` where none is named; no message open and no offer.
 // CHANGE is one initial value that the case has otherwise, as `m=1000`, in units of the last decimal; `-` where there is none.
 // SENT is a message, each character in good parity, but for `{256}`, a silence; `{M!}`, an `M` in bad parity; `{sp}`, a space.
 // ANSWER is what the card says to all of it, and `-` is silence. A case has at most `player::MESSAGES` messages.

@@ -1,5 +1,4 @@
 // A case on a card: its messages at once and word by word, and each answer compared.
-use crate::reader::address_of;
 use crate::reader::change;
 use crate::reader::field;
 use crate::reader::start;
@@ -11,10 +10,10 @@ use card::RunAnswer;
 use card::StepAnswer;
 use hearing::Pending;
 
-// The words of a message, and the bytes of the replies to it.
+// The words of a message, and the bytes of the replies to it: two of the longest, since a word is taken only with room for one.
 const WORDS: usize = 64;
 
-const REPLIES: usize = 64;
+const REPLIES: usize = 2 * reply::LONGEST_REPLY;
 
 // The most messages that a case has.
 const MESSAGES: usize = 8;
@@ -226,8 +225,7 @@ fn messages<'a>(
     Outcome::Same
 }
 
-fn fresh(letter: u8, address: u8) -> Card {
-    let setup = Setup { letter, address };
+fn fresh(setup: Setup) -> Card {
     let pending = Pending::new();
     let offer = Offer::Nothing;
     Card {
@@ -239,7 +237,7 @@ fn fresh(letter: u8, address: u8) -> Card {
 
 // A case on a card, both ways, each from the values at the start.
 pub(crate) fn both<'a>(
-    letter: u8,
+    setup: Setup,
     bench: &'a [i32],
     maker: &'a [i32],
     values: [i32; 128],
@@ -251,17 +249,9 @@ pub(crate) fn both<'a>(
         return Outcome::Differs(0);
     }
     let mut second = first;
-    let address = address_of(field(line, 1));
-    let outcome = messages(true, fresh(letter, address), bench, maker, &mut first, line);
+    let outcome = messages(true, fresh(setup), bench, maker, &mut first, line);
     let Outcome::Same = outcome else {
         return outcome;
     };
-    messages(
-        false,
-        fresh(letter, address),
-        bench,
-        maker,
-        &mut second,
-        line,
-    )
+    messages(false, fresh(setup), bench, maker, &mut second, line)
 }

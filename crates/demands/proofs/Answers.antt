@@ -37,7 +37,7 @@ module _ (bench maker : List ℤ) (c : Card) (values : List ℤ) (w : ℕ) where
 
   pub said-is : Sound bench maker c values → (a : Answer) → saidTo bench maker c values w ≡ Reply a → isAnswer a ≡ true
   unfolding saidTo
-  said-is s = said-answer bench maker c values (s .offer-sound) (s .values-sound) w
+  said-is s = said-answer bench maker c values (s .offer-sound) (s .scan-sound) (s .values-sound) w
 
   module _ (out : List ℕ) (s : Sound bench maker c values) (v : w ≤ 256) (h : longestReply ≤ length out) where
     abbrev call : After ℕ

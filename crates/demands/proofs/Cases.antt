@@ -10,7 +10,7 @@ use Rattle.refusal.specs.Buffer.{laid}
 use Rattle.refusal.specs.Check.{first}
 use Rattle.wire.specs.Word.{evenParity, withParity, received, travelling, validWords}
 use Rattle.number.specs.Number.{inRange, isMultiple, cutDown, cut, raised, lowered}
-use Rattle.number.specs.Data.{digit, isDigit, digitOf, fits, codeOf, fiveDigits, spellData, decode, readNext, readFrom, readData}
+use Rattle.number.specs.Data.{digit, isDigit, digitOf, fits, codeOf, fiveDigits, spellData, spellAll, decode, readNext, readFrom, readData}
 use Rattle.message.specs.Message.{isLetter, isAddress, isIdentifier}
 use Rattle.message.specs.Prefix.{extendIdentifier, extendAddress, extendData, extendBody, extend, extendAll, finish, parse}
 use Rattle.message.specs.Spell.{spellAddress}
@@ -19,19 +19,20 @@ use Rattle.hearing.specs.Sound.{plainChar, plain, zeros, soundPending}
 use Rattle.sheet.specs.Sheet.{rows, soundIdentifier, soundNumbers, soundRow, soundRows, soundSheet}
 use Rattle.sheet.specs.Lookup.{codeIs, rowAmong, placeAmong, rowIn, placeIn, hasRow, rowOf}
 use Rattle.sheet.specs.Lookup as lookup
-use Rattle.sheet.specs.Values.{numbersOf, entryOf, entryIn, isReadable, isWritable, isReadWrite, fitsRow, fitsPlace, soundFrom, soundValues}
-use Rattle.reply.specs.Reply.{spellContent, spellAnswer}
+use Rattle.sheet.specs.Values.{numbersOf, entryOf, entryIn, isReadable, isReadableEntry, isWritable, isReadWrite, fitsRow, fitsPlace, soundFrom, soundValues}
+use Rattle.reply.specs.Reply.{spellScan, spellContent, spellAnswer, isNone, fitsContent, isAnswer}
+use Rattle.reply.specs.Read.{charactersOf, guessMark, decimalOf, numberAt, guessContent, guessBehind, guess, isReply}
 use Rattle.act.specs.declared.Offer.the-variants.{Nothing}
-use Rattle.act.specs.Act.{says, accepts, shownBy, declines, query, moves, up, down, offers, setTo, store, serve, isFor, respond, act}
+use Rattle.act.specs.Act.{namesFrom, valueOf, scanOf, declinesScan, serveScan, says, accepts, shownBy, declines, query, moves, up, down, offers, setTo, store, serve, isFor, addressed, respond, act}
 use Rattle.card.specs.Turn.{effectOf, turned, turn, stored, play}
-use Rattle.card.specs.Refusals.{soundSetup, soundCard, offerable, soundOffer, cardChecks}
+use Rattle.card.specs.Refusals.{soundScan, soundSetup, soundCard, offerable, soundOffer, cardChecks}
 use Rattle.card.specs.Calls.{runCall}
 use Rattle.demands.specs.Terms.{Sound}
-use Rattle.demands.specs.Bench.{benchRows, benchValues, benchCard, Case, benchCases, moreCases, equalZ, took, answersAll, passes}
+use Rattle.demands.specs.Bench.{benchRows, benchValues, benchCard, Case, benchCases, moreCases, scanCases, noReplies, timeRow, scanValues, scanCard, equalZ, took, answersAll, passes, passesScan, isNoReply}
 
 -- what a table computes through
 computed : List Case → Bool
-unfolding ones onesIn every same laid first evenParity withParity received travelling validWords inRange isMultiple cutDown cut raised lowered digit isDigit digitOf fits codeOf fiveDigits spellData decode readNext readFrom readData isLetter isAddress isIdentifier extendIdentifier extendAddress extendData extendBody extend extendAll finish parse spellAddress none added openOf opening continuing actionOf perform hear plainChar plain zeros soundPending rows soundIdentifier soundNumbers soundRow soundRows soundSheet codeIs lookup.isFor rowAmong placeAmong rowIn placeIn hasRow rowOf numbersOf entryOf entryIn isReadable isWritable isReadWrite fitsRow fitsPlace soundFrom soundValues spellContent spellAnswer says accepts shownBy declines query moves up down offers setTo store serve isFor respond act effectOf turned turn stored play soundSetup soundCard offerable soundOffer cardChecks runCall benchRows benchValues benchCard equalZ took answersAll passes
+unfolding ones onesIn every same laid first evenParity withParity received travelling validWords inRange isMultiple cutDown cut raised lowered digit isDigit digitOf fits codeOf fiveDigits spellData decode readNext readFrom readData isLetter isAddress isIdentifier extendIdentifier extendAddress extendData extendBody extend extendAll finish parse spellAddress none added openOf opening continuing actionOf perform hear plainChar plain zeros soundPending rows soundIdentifier soundNumbers soundRow soundRows soundSheet codeIs lookup.isFor rowAmong placeAmong rowIn placeIn hasRow rowOf numbersOf entryOf entryIn isReadable isWritable isReadWrite fitsRow fitsPlace soundFrom soundValues spellContent spellAnswer says accepts shownBy declines query moves up down offers setTo store serve isFor addressed respond act effectOf turned turn stored play soundSetup soundCard offerable soundOffer isReadableEntry namesFrom soundScan serveScan declinesScan cardChecks runCall benchRows benchValues benchCard equalZ took answersAll passes
 computed xs = every passes xs
 
 -- cases a to l
@@ -44,11 +45,20 @@ pub more : every passes moreCases ≡ true
 unfolding computed moreCases
 more = refl
 
+-- the scan
+pub scan : every passesScan scanCases ≡ true
+unfolding computed spellScan spellAll valueOf scanOf passesScan scanCard scanValues timeRow scanCases
+scan = refl
+
+pub no-replies : every isNoReply noReplies ≡ true
+unfolding computed charactersOf guessMark decimalOf numberAt guessContent guessBehind guess isReply isNone fitsContent isAnswer spellScan spellAll isNoReply noReplies
+no-replies = refl
+
 -- the claims on sound cards, sheets and values are not empty: those of the bench are sound
 sounds : Bool
 unfolding computed
-sounds = soundCard benchCard && (soundSheet [] && soundSheet benchRows) && soundOffer [] benchRows Nothing && soundValues [] benchRows (benchValues (pos 20))
+sounds = soundCard benchCard && (soundSheet [] && soundSheet benchRows) && soundOffer [] benchRows Nothing && soundScan [] benchRows (benchCard .setup) && soundValues [] benchRows (benchValues (pos 20))
 
 pub bench-sound : Sound [] benchRows benchCard (benchValues (pos 20))
 unfolding sounds computed
-bench-sound = record { card-sound = refl; sheets-sound = refl; offer-sound = refl; values-sound = refl }
+bench-sound = record { card-sound = refl; sheets-sound = refl; offer-sound = refl; scan-sound = refl; values-sound = refl }

@@ -32,5 +32,5 @@ pub stays-sound : StaysSound
 stays-sound = record {
   stays = λ bench maker c values w out s. by-call bench maker c values w out (λ (a : After ℕ). Sound bench maker (a .card) (a .values)) (λ n. s) (left bench maker c values s w);
   untouched = λ bench maker c values w out i s e.
-      by-call bench maker c values w out (λ (a : After ℕ). getD (a .values) i (pos 0) ≡ getD values i (pos 0)) (λ n. refl) (places-stay bench maker c values (s .offer-sound) (s .values-sound) w i e);
+      by-call bench maker c values w out (λ (a : After ℕ). getD (a .values) i (pos 0) ≡ getD values i (pos 0)) (λ n. refl) (places-stay bench maker c values (s .offer-sound) (s .scan-sound) (s .values-sound) w i e);
 }

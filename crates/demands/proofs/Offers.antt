@@ -7,7 +7,7 @@ use Prim.Native.Nat.{ℕ}
 use Prim.Native.Char.{code}
 use lib.Dec.{lit≤}
 use lib.IntN.{ℤ}
-use lib.ListN.{length}
+use lib.ListN.{length, replicate}
 use Rattle.refusal.specs.Refusal.{gave}
 use Rattle.refusal.proofs.Logic.{and-left, and-right}
 use Rattle.wire.specs.Word.{withParity}
@@ -34,14 +34,14 @@ use Rattle.act.specs.Act.{act}
 use Rattle.act.proofs.OnOffer.{Leaves, act-leaves, set-leaves}
 use Rattle.card.specs.declared.Card.{Card}
 use Rattle.card.specs.Turn.{turn}
-use Rattle.card.specs.Refusals.{soundOffer}
+use Rattle.card.specs.Refusals.{soundOffer, noScanRow}
 use Rattle.card.specs.Calls.{After, stepCall}
 use Rattle.card.proofs.Turns.{effects, effect-heard, turn-card}
 use Rattle.card.proofs.Steps.{served-step}
-use Rattle.card.proofs.Sounds.{Offerable, offer-parts, leaves-sound}
+use Rattle.card.proofs.Sounds.{Offerable, offer-parts, leaves-sound, row-no-scan, no-scan}
 use Rattle.demands.specs.Demand2.{LeftBy, OfferReachable, NotAbove, NeverUp}
 use Rattle.demands.proofs.Words.{taken}
-use Rattle.demands.proofs.Possible.{setupFor, cardFor, for-itself, room, star-valid, card-sound}
+use Rattle.demands.proofs.Possible.{cardFor, for-itself, room, star-valid, card-sound}
 
 -- ---- what a word that closes a message leaves on offer
 
@@ -91,8 +91,11 @@ module _ (bench maker : List ℤ) (i : ℕ) (z : ℤ) where
   abbrev asks : ℕ → Message
   asks d = record { letter = code "L"; address = 1; identifier = i; body = Set (withDecimals z d) }
 
-  offer-left : (soundSheet bench && soundSheet maker) ≡ true → Offerable bench maker i z → LeftBy bench maker (Held i z)
-  offer-left sheets o =
+  abbrev unnamed : List ℕ
+  unnamed = replicate 5 0
+
+  offer-left : (soundSheet bench && soundSheet maker) ≡ true → noScanRow bench maker ≡ true → Offerable bench maker i z → LeftBy bench maker (Held i z)
+  offer-left sheets free o =
       let r = o .allowed .row in
       let e = o .allowed .found in
       let s = entry-sound bench maker i r e in
@@ -101,6 +104,7 @@ module _ (bench maker : List ℤ) (i : ℕ) (z : ℤ) where
       let b = range-small r s z (p .0) in
       let m = asks (r .decimals) in
       let x = withDecimals z (r .decimals) in
+      let its = cardFor m 0 unnamed in
       let is-message : isMessage m ≡ true = whole m (record {
         is-letter = letter-is;
         is-address = address-is 1 (lit≤ tt) (lit≤ tt);
@@ -108,16 +112,17 @@ module _ (bench maker : List ℤ) (i : ℕ) (z : ℤ) where
         fits-body = parts-body i (Set x) (c .1, within-fits x b (s .decimals-most));
       }) in
       let values = leastValues bench maker in
-      let sound = card-sound m is-message bench maker values sheets (least-sound bench maker (and-left (soundSheet bench) (soundSheet maker) sheets) (and-right (soundSheet bench) (soundSheet maker) sheets)) in
-      let call = taken bench maker (cardFor m) values sound (withParity star) room star-valid (lit≤ tt) in
+      let fit = least-sound bench maker (and-left (soundSheet bench) (soundSheet maker) sheets) (and-right (soundSheet bench) (soundSheet maker) sheets) in
+      let sound = card-sound m 0 unnamed is-message bench maker values sheets (no-scan bench maker free (its .setup) refl) fit in
+      let call = taken bench maker its values sound (withParity star) room star-valid (lit≤ tt) in
       record {
-        card = cardFor m;
+        card = its;
         values = values;
         word = withParity star;
         out = room;
         message = m;
         number = x;
-        bytes = length (turn bench maker (cardFor m) values (withParity star) .reply);
+        bytes = length (turn bench maker its values (withParity star) .reply);
         sound = sound;
         nothing-before = refl;
         closes = spelled-closed m is-message;
@@ -125,10 +130,10 @@ module _ (bench maker : List ℤ) (i : ℕ) (z : ℤ) where
         gives = ap (λ (a : After ℕ). a .outcome) call;
         leaves =
             ap (λ (a : After ℕ). a .card .offer) call
-            ∙ turn-offer bench maker (cardFor m) values (withParity star) m (spelled-closed m is-message)
-            ∙ set-leaves bench maker (setupFor m) Nothing values m (for-itself m) r e z refl (o .writable) (p .0)
+            ∙ turn-offer bench maker its values (withParity star) m (spelled-closed m is-message)
+            ∙ set-leaves bench maker (its .setup) Nothing values m (for-itself m 0 unnamed) (row-no-scan bench maker free i r e) r e z refl (o .writable) (p .0)
             ∙ ap (Held i) (cut-own (r .step) (s .step-least) z b (s .step-most) (p .1));
       }
 
 pub offer-reachable : OfferReachable
-offer-reachable = record { reachable = λ bench maker h i z. (λ s. offer-left bench maker i z h (offer-parts bench maker i z s), left-sound bench maker i z) }
+offer-reachable = record { reachable = λ bench maker h free i z. (λ s. offer-left bench maker i z h free (offer-parts bench maker i z s), left-sound bench maker i z) }

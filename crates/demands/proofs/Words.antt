@@ -27,6 +27,7 @@ use Rattle.card.specs.declared.Card.{Card}
 use Rattle.card.specs.Turn.{Turn, turn, stored, Played, stopped, after, play}
 use Rattle.card.specs.Refusals.{cardChecks}
 use Rattle.card.specs.Calls.{After, answered, stepCall, Took, ended, runCall}
+use Rattle.card.proofs.Turns.{turn-card}
 use Rattle.card.proofs.Steps.{all-sound, step-served, served-step, run-served}
 use Rattle.card.proofs.Sounds.{card-stays, offer-stays, values-stay}
 use Rattle.card.proofs.Plays.{play-end, play-word}
@@ -54,7 +55,7 @@ writers-heard = record {
 
 module _ (bench maker : List ℤ) (c : Card) (values : List ℤ) (s : Sound bench maker c values) where
   pub passed : (ws : List ℕ) → validWords ws ≡ true → first (cardChecks c bench maker values ws) ≡ gave tt
-  passed ws v = all-sound c bench maker values ws (s .card-sound) (s .sheets-sound) (s .offer-sound) (s .values-sound) v
+  passed ws v = all-sound c bench maker values ws (s .card-sound) (s .sheets-sound) (s .offer-sound) (s .scan-sound) (s .values-sound) v
 
   -- a single word that is served
   pub taken : (w : ℕ) (out : List ℕ) → w ≤ 256 → longestReply ≤ length out → stepCall c bench maker values w out ≡ answered (turn bench maker c values w) values out
@@ -66,7 +67,8 @@ module _ (bench maker : List ℤ) (c : Card) (values : List ℤ) (s : Sound benc
     card-sound = card-stays bench maker c values w (s .card-sound);
     sheets-sound = s .sheets-sound;
     offer-sound = offer-stays bench maker c values (s .offer-sound) w;
-    values-sound = values-stay bench maker c values (s .offer-sound) (s .values-sound) w;
+    scan-sound = rw (turn-card bench maker c values w) (s .scan-sound);
+    values-sound = values-stay bench maker c values (s .offer-sound) (s .scan-sound) (s .values-sound) w;
   }
 
   ran : (ws out : List ℕ) → validWords ws ≡ true → runCall c bench maker values ws out ≡ ended (play bench maker c values (length out) ws) out

@@ -1,6 +1,7 @@
--- The bench cases of document 01 as tables: each case its exchanges, message by message, and the value of m before and after.
-use mathlib.Core.Bool.{Bool, false, _&&_}
-use mathlib.Core.List.{List, [], _∷_}
+-- The bench cases of document 01 and the scan of document 02 as tables: each case its exchanges, message by message, and the value of m
+-- before and after.
+use mathlib.Core.Bool.{Bool, false, not, _&&_}
+use mathlib.Core.List.{List, [], _∷_, _++_}
 use Prim.Native.Nat.{ℕ}
 use Prim.Native.Char.{code}
 use Prim.Native.String.{String}
@@ -13,6 +14,8 @@ use Rattle.refusal.specs.Refusal.{Outcome, refused, gave}
 use Rattle.wire.specs.Text.{chars}
 use Rattle.wire.specs.Word.{travelling}
 use Rattle.hearing.specs.Hearing.{none}
+use Rattle.reply.specs.Reply.{longestReply}
+use Rattle.reply.specs.Read.{isReply}
 use Rattle.card.specs.declared.Card.{Card}
 use Rattle.act.specs.declared.Offer.the-variants.{Nothing}
 use Rattle.card.specs.Calls.{After, Took, runCall}
@@ -32,7 +35,7 @@ benchValues m = set (set (set (set (replicate 128 (pos 0)) (code "J") (pos 0)) (
 
 -- "Card `L`, address 7"; "no message open and no offer"
 unfoldable pub benchCard : Card
-benchCard = record { setup = record { letter = code "L"; address = 7 }; pending = none; offer = Nothing }
+benchCard = record { setup = record { letter = code "L"; address = 7; count = 0; scan = replicate 5 0 }; pending = none; offer = Nothing }
 
 -- a message as sent, and what is answered to it
 pub record Exchange : Type 0 where
@@ -84,6 +87,58 @@ moreCases =
     ∷ case (pos 20) ("L7Z#00150*" ⇒ "L7Z00150I*" ∷ "L7ZI*" ⇒ "L7Z00150A*" ∷ "L7Z+*" ⇒ "L7Z00000N*" ∷ []) (pos 20)
     ∷ []
 
+-- ---- the scan
+
+-- a row with two decimals, in the bench sheet: `T` (1, 2 decimals, step 1, 0 to 9959)
+unfoldable pub timeRow : List ℤ
+timeRow = pos (code "T") ∷ pos 1 ∷ pos 2 ∷ pos 1 ∷ pos 0 ∷ pos 9959 ∷ []
+
+-- J is -15 and T 1234, m as given
+unfoldable pub scanValues : ℤ → List ℤ
+scanValues m = set (set (benchValues m) (code "J") (negsuc 14)) (code "T") (pos 1234)
+
+-- the same card, with names for its scan
+unfoldable pub scanCard : String → Card
+scanCard names =
+    record { setup = record { letter = code "L"; address = 7; count = length (chars names); scan = take 5 (chars names ++ replicate 5 0) }; pending = none; offer = Nothing }
+
+pub record ScanCase : Type 0 where
+  pub names : String
+  pub played : Case
+
+unfoldable pub naming : String → ℤ → List Exchange → ℤ → ScanCase
+naming names m xs n = record { names = names; played = record { first = m; exchanges = xs; last = n } }
+
+-- document 02, ticket 1: five values, four, none named; each has its row's decimals, and J is below zero; what isn't a query is `N` with
+-- `00000`, a Type 4 is silence, and each of them cancels an offer; a value is the one at that moment
+unfoldable pub scanCases : List ScanCase
+unfolding _⇒_ naming
+scanCases =
+    naming "MJmTM" (pos 20) ("L7]?*" ⇒ "L7]250231100156002011234202311A*" ∷ []) (pos 20)
+    ∷ naming "TJmM" (pos 20) ("L7]?*" ⇒ "L7]2012342001560020102311A*" ∷ []) (pos 20)
+    ∷ naming "" (pos 20) ("L7]?*" ⇒ "L7]00000N*" ∷ []) (pos 20)
+    ∷ naming "MJmTM" (pos 20) ("L7]+*" ⇒ "L7]00000N*" ∷ "L7]-*" ⇒ "L7]00000N*" ∷ "L7]#00000*" ⇒ "L7]00000N*" ∷ []) (pos 20)
+    ∷ naming "MJmTM" (pos 20) ("L7]I*" ⇒ "" ∷ []) (pos 20)
+    ∷ naming "MJmTM" (pos 20) ("L7m#00301*" ⇒ "L7m00301I*" ∷ "L7]I*" ⇒ "" ∷ "L7mI*" ⇒ "" ∷ []) (pos 20)
+    ∷ naming "MJmT" (pos 20) ("L7m#00301*" ⇒ "L7m00301I*" ∷ "L7]?*" ⇒ "L7]2002311001560020112342A*" ∷ "L7mI*" ⇒ "" ∷ []) (pos 20)
+    ∷ naming "" (pos 20) ("L7m#00301*" ⇒ "L7m00301I*" ∷ "L7]?*" ⇒ "L7]00000N*" ∷ "L7mI*" ⇒ "" ∷ []) (pos 20)
+    ∷ naming "mmmm" (pos 20) ("L7m+*" ⇒ "L7m00251A*" ∷ "L7]?*" ⇒ "L7]2000251002510025100251A*" ∷ []) (pos 25)
+    ∷ []
+
+-- replies that no sound card gives: five digits on `]` but `00000N`, another count, mark or identifier, minus zero among the values
+unfoldable pub noReplies : List String
+noReplies =
+    "L7]02311A*"
+    ∷ "L7]00001N*"
+    ∷ "L7]00000I*"
+    ∷ "L7]2402311001560020112342A*"
+    ∷ "L7]250231100156002011234202311N*"
+    ∷ "L7M2002311001560020112342A*"
+    ∷ "L7]2002311000060020112342A*"
+    ∷ []
+
+-- ---- what the tables say
+
 -- the same number
 unfoldable pub equalZ : ℤ → ℤ → Bool
 equalZ x y = leZ x y && leZ y x
@@ -93,15 +148,23 @@ unfoldable pub took : Outcome Took → ℕ → ℕ → Bool
 took (refused n) words bytes = false
 took (gave t) words bytes = eqb (t .words) words && eqb (t .bytes) bytes
 
--- each exchange is a run with room for 11 bytes: it is served, takes every word, and writes the answer; and the last leaves these values
-unfoldable pub answersAll : Card → List ℤ → List Exchange → List ℤ → Bool
-answersAll c values [] last = same equalZ values last
-answersAll c values (x ∷ xs) last =
+-- each exchange is a run with room for any reply: it is served, takes every word, and writes the answer; and the last leaves these values
+unfoldable pub answersAll : List ℤ → Card → List ℤ → List Exchange → List ℤ → Bool
+answersAll bench c values [] last = same equalZ values last
+answersAll bench c values (x ∷ xs) last =
     let sent : List ℕ = travelling (chars (x .sent)) in
     let answer : List ℕ = travelling (chars (x .answered)) in
-    let r : After Took = runCall c [] benchRows values sent (replicate 11 0) in
-    took (r .outcome) (length sent) (length answer) && same eqb (take (length answer) (r .buffer)) answer && answersAll (r .card) (r .values) xs last
+    let r : After Took = runCall c bench benchRows values sent (replicate longestReply 0) in
+    took (r .outcome) (length sent) (length answer) && same eqb (take (length answer) (r .buffer)) answer && answersAll bench (r .card) (r .values) xs last
 
 -- a case from its start
 unfoldable pub passes : Case → Bool
-passes x = answersAll benchCard (benchValues (x .first)) (x .exchanges) (benchValues (x .last))
+passes x = answersAll [] benchCard (benchValues (x .first)) (x .exchanges) (benchValues (x .last))
+
+-- with names for the scan
+unfoldable pub passesScan : ScanCase → Bool
+passesScan x = answersAll timeRow (scanCard (x .names)) (scanValues (x .played .first)) (x .played .exchanges) (scanValues (x .played .last))
+
+-- the reader gives number 6
+unfoldable pub isNoReply : String → Bool
+isNoReply x = not (isReply (travelling (chars x)))

@@ -25,13 +25,16 @@ use Rattle.sheet.specs.declared.Entry.the-variants.{Found, Missing}
 use Rattle.sheet.specs.Sheet.{soundSheet}
 use Rattle.sheet.specs.Values.{entryIn}
 use Rattle.reply.specs.declared.Answer.{Answer}
-use Rattle.reply.specs.Reply.{longestReply, spellAnswer}
+use Rattle.reply.specs.declared.Mark.the-variants.{Declined}
+use Rattle.reply.specs.declared.Content.the-variants.{Number}
+use Rattle.reply.specs.Reply.{longestReply, scanIdentifier, spellAnswer}
 use Rattle.reply.specs.Read.{readCall}
+use Rattle.act.specs.Act.{noNumber}
 use Rattle.act.specs.declared.Offer.{Offer}
 use Rattle.act.specs.declared.Offer.the-variants.{Nothing, Held}
 use Rattle.act.specs.declared.Said.the-variants.{Silence, Reply}
 use Rattle.card.specs.declared.Card.{Card}
-use Rattle.card.specs.Refusals.{soundOffer}
+use Rattle.card.specs.Refusals.{soundOffer, noScanRow}
 use Rattle.card.specs.Calls.{After, stepCall, Took, runCall}
 use Rattle.demands.specs.Terms.{Sound, saidTo}
 
@@ -65,8 +68,9 @@ pub record Drawn (bs : List ℕ) (a : Answer) : Type 0 where
   pub word : ℕ
   pub out : List ℕ
   pub sound : Sound bench maker card values
-  -- the open message has its room, as every card of the code has
+  -- the open message and the names of the scan have their room, as in every card of the code
   pub room : length (card .pending .chars) ≡ most
+  pub names-room : length (card .setup .scan) ≡ 5
   pub valid : word ≤ 256
   pub says : saidTo bench maker card values word ≡ Reply a
   pub gives : its bench maker card values word out .outcome ≡ gave (length bs)
@@ -75,6 +79,8 @@ pub record Drawn (bs : List ℕ) (a : Answer) : Type 0 where
 -- number 6: the reader takes exactly the bytes that some sound card replies with, and as the answer that it gave
 pub record ReaderExact : Type 0 where
   pub exact : (bs : List ℕ) (a : Answer) → (readCall bs ≡ gave a) ↔ Drawn bs a
+  -- so a reply on `]` with one number is `00000` with `N`
+  pub one-on-scan : (bs : List ℕ) (a : Answer) (x : Decimal) → readCall bs ≡ gave a → a .identifier ≡ scanIdentifier → a .content ≡ Number x → (a .mark ≡ Declined) × (Number x ≡ noNumber)
 
 -- ---- offers
 
@@ -94,9 +100,9 @@ pub record LeftBy (bench maker : List ℤ) (o : Offer) : Type 0 where
   pub gives : its bench maker card values word out .outcome ≡ gave bytes
   pub leaves : its bench maker card values word out .card .offer ≡ o
 
--- number 1: under sound sheets an offer is sound exactly when a Type 3 can leave it
+-- number 1: under sound sheets without a row for `]` an offer is sound exactly when a Type 3 can leave it; under any others no card is sound
 pub record OfferReachable : Type 0 where
-  pub reachable : (bench maker : List ℤ) → (soundSheet bench && soundSheet maker) ≡ true → (i : ℕ) (z : ℤ) → (soundOffer bench maker (Held i z) ≡ true) ↔ LeftBy bench maker (Held i z)
+  pub reachable : (bench maker : List ℤ) → (soundSheet bench && soundSheet maker) ≡ true → noScanRow bench maker ≡ true → (i : ℕ) (z : ℤ) → (soundOffer bench maker (Held i z) ≡ true) ↔ LeftBy bench maker (Held i z)
 
 -- what is offered for a number n is a multiple of the row's step, not above n, and no multiple lies between
 pub record NotAbove (n z : ℤ) (r : Row) : Type 0 where

@@ -10,13 +10,14 @@ use Rattle.sheet.specs.Values.{soundValues}
 use Rattle.act.specs.declared.Said.{Said}
 use Rattle.card.specs.declared.Card.{Card}
 use Rattle.card.specs.Turn.{Turn, effectOf, turn, stored}
-use Rattle.card.specs.Refusals.{soundCard, soundOffer}
+use Rattle.card.specs.Refusals.{soundCard, soundOffer, soundScan}
 
 -- document 01: "A card, sheets and values are sound where numbers 1, 2 and 3 don't hold of them."
 pub record Sound (bench maker : List ℤ) (c : Card) (values : List ℤ) : Type 0 where
   pub card-sound : soundCard c ≡ true
   pub sheets-sound : (soundSheet bench && soundSheet maker) ≡ true
   pub offer-sound : soundOffer bench maker (c .offer) ≡ true
+  pub scan-sound : soundScan bench maker (c .setup) ≡ true
   pub values-sound : soundValues bench maker values ≡ true
 
 -- what the card says to a word

@@ -2,3 +2,4 @@ pub mod Table
 pub mod Dcp100Controller
 pub mod Dcp100Programmer
 pub mod Udi1500
+pub mod Scans

@@ -1,5 +1,6 @@
-// The sheets of three real instruments, and their initial values by character code. A table has a line for each row:
-// identifier, access, decimals, step, least, greatest, initial value. specs/ has the same lines, with their places in the manuals.
+// The sheets of three real instruments, their initial values by character code, and the identifiers of their scans. A table has a line
+// for each row: identifier, access, decimals, step, least, greatest, initial value. specs/ has the same lines, with their places in the
+// manuals.
 ghost use mathlib.Core.Path.{_≡_};
 ghost use mathlib.Core.Bool.{true};
 ghost use Prim.Native.Nat.{_+_, _*_, _≤_};
@@ -9,6 +10,7 @@ ghost use Rattle.models.specs.Table.{sheetOf, areCodes, filled, valuesOf
 ghost use Rattle.models.specs.Dcp100Controller.{dcp100Controller};
 ghost use Rattle.models.specs.Dcp100Programmer.{dcp100Programmer};
 ghost use Rattle.models.specs.Udi1500.{udi1500};
+ghost use Rattle.models.specs.Scans.{dcp100ControllerScan, dcp100OneOutputScan, udi1500Scan, padded};
 
 // DCP 100 controller, letter `L`.
 const DCP100_CONTROLLER: [[i32; 7]; 28] = [
@@ -202,4 +204,24 @@ pub fn udi1500_values() -> [i32; 128]
     let table = indicator();
     put_values(&table, &mut values);
     values
+}
+
+// The identifiers of the scan, in order.
+pub fn dcp100_controller_scan() -> [u8; 5]
+    ensures { λ r. ⌜ r ≡ padded dcp100ControllerScan ⌝ }
+{
+    [b'S', b'M', b'W', b'W', b'L']
+}
+
+// The same where the instrument has one control output; four, and 0 behind them.
+pub fn dcp100_one_output_scan() -> [u8; 5]
+    ensures { λ r. ⌜ r ≡ padded dcp100OneOutputScan ⌝ }
+{
+    [b'S', b'M', b'W', b'L', 0]
+}
+
+pub fn udi1500_scan() -> [u8; 5]
+    ensures { λ r. ⌜ r ≡ padded udi1500Scan ⌝ }
+{
+    [b'M', b'A', b'B', b'T', b'L']
 }

@@ -1,16 +1,18 @@
 -- The reader gives back every answer that is spelled, and reads nothing else: the guess by position is right at what is spelled, and
 -- a guess stands only where its spelling is the very bytes. Assumes nothing.
 use mathlib.Core.Path.{_≡_, refl, sym, ap, ap₂, _∙_, subst}
-use mathlib.Core.Bool.{true, false, not, _&&_, false≢true}
+use mathlib.Core.Bool.{true, false, cond, not, _&&_, _||_, false≢true}
 use mathlib.Core.List.{List, [], _∷_, _++_, map}
-use Prim.Native.Nat.{ℕ, _+_, _*_, _/_, _%_, _<_, _≤_}
+use Prim.Native.Nat.{ℕ, zero, suc, _+_, _-_, _*_, _/_, _%_, _<_, _≤_}
+use Prim.Native.Char.{code}
 use native.Mathlib.Nat.{div-add-mod', mod-eq-of-lt}
 use native.Mathlib.Omega.{arith}
 use borrow.Author.Tests.{eqb-true, eq-eqb, ne-eqb}
 use lib.Dec.{leb, eqb, lit<}
-use lib.ListN.{length, getD, drop, length-map, List·getD-map, List·getD-eq-default}
-use lib.Seq.{getD-drop}
-use Rattle.refusal.specs.Lists.{same}
+use lib.IntN.{ℤ, pos, negsuc, natAbs}
+use lib.ListN.{length, getD, take, drop, length-append, length-take, length-drop, length-map, List·getD-map, List·getD-eq-default}
+use lib.Seq.{getD-take, getD-drop, getD-append-add, drop-drop}
+use Rattle.refusal.specs.Lists.{every, same}
 use Rattle.refusal.specs.Refusal.{refused, gave}
 use Rattle.refusal.specs.Check.{refuseIf, first, decided}
 use Rattle.refusal.specs.declared.Refusal.the-variants.{NotReply}
@@ -20,20 +22,25 @@ use Rattle.refusal.proofs.Logic.{ands, and-both, and-left, and-right, not-is, i
 use Rattle.wire.specs.Word.{travelling}
 use Rattle.wire.proofs.Words.{written-low}
 use Rattle.number.specs.declared.Decimal.{Decimal}
-use Rattle.number.specs.Data.{digit, isDigit, digitOf, fits, spellData, readData}
+use Rattle.number.specs.declared.Data.{Data}
+use Rattle.number.specs.declared.Data.the-variants.{Partial, Invalid}
+use Rattle.number.specs.declared.Data.the-variants as read
+use Rattle.number.specs.Data.{withDecimals, digit, isDigit, digitOf, fits, spellData, readData, spellAll}
 use Rattle.number.proofs.Digits.{digit-is, digit-back, data-length, data-digits}
-use Rattle.number.proofs.Reading.{read-written}
+use Rattle.number.proofs.Reading.{read-written, read-length}
+use Rattle.number.proofs.Several.{all-length, first-data, nth, each-data}
 use Rattle.message.specs.Message.{star, question, isLetter, isAddress, isIdentifier}
 use Rattle.message.specs.Spell.{spellAddress}
 use Rattle.message.proofs.Messages.{address-most, identifier-no-digit, plain-letter, plain-identifier}
+use Rattle.message.proofs.Places.{five-are}
 use Rattle.message.proofs.Spelling.{plain-address, plain-digits, Small, small-append, plain-small}
 use Rattle.reply.specs.declared.Mark.{Mark}
 use Rattle.reply.specs.declared.Mark.the-variants as mark
 use Rattle.reply.specs.declared.Content.{Content}
-use Rattle.reply.specs.declared.Content.the-variants.{Empty, Number}
+use Rattle.reply.specs.declared.Content.the-variants.{Empty, Number, Four, Five}
 use Rattle.reply.specs.declared.Answer.{Answer}
-use Rattle.reply.specs.Reply.{markOf, spellContent, spellAnswer, fitsContent, isAnswer}
-use Rattle.reply.specs.Read.{charactersOf, guessMark, contentOf, five, guessBehind, guess, isReply, readCall}
+use Rattle.reply.specs.Reply.{scanIdentifier, markOf, spellScan, spellContent, spellAnswer, isNone, fitsContent, isAnswer}
+use Rattle.reply.specs.Read.{charactersOf, guessMark, decimalOf, numberAt, guessContent, guessBehind, guess, isReply, readCall}
 
 -- ---- an answer by its parts
 
@@ -51,34 +58,71 @@ pub parts-answer : (a : Answer) → AnswerParts a → isAnswer a ≡ true
 unfolding isAnswer
 parts-answer a p = and-both (and-both (and-both (p .is-letter) (p .is-address)) (p .is-identifier)) (p .fits-content)
 
--- a number's answer, and the status's
-pub number-content : (i : ℕ) (k : Mark) (x : Decimal) → fitsContent i k (Number x) ≡ true → (eqb i question ≡ false) × (fits x ≡ true)
-unfolding fitsContent
-number-content i mark.Accepted x e = (not-is {a = eqb i question} (search ands), search ands)
-number-content i mark.Offered x e = (not-is {a = eqb i question} (search ands), search ands)
-number-content i mark.Declined x e = (not-is {a = eqb i question} (search ands), search ands)
+-- a mark by its character
+accepted : (k : Mark) → eqb (markOf k) (code "A") ≡ true → k ≡ mark.Accepted
+accepted mark.Accepted e = refl
+accepted mark.Offered e = absurd (false≢true e)
+accepted mark.Declined e = absurd (false≢true e)
 
-pub content-number : (i : ℕ) (k : Mark) (x : Decimal) → eqb i question ≡ false → fits x ≡ true → fitsContent i k (Number x) ≡ true
-unfolding fitsContent
-content-number i mark.Accepted x e f = rw (e, f)
-content-number i mark.Offered x e f = rw (e, f)
-content-number i mark.Declined x e f = rw (e, f)
-
+-- what each content tells of its answer
 pub status-content : (i : ℕ) (k : Mark) → fitsContent i k Empty ≡ true → (k ≡ mark.Accepted) × (eqb i question ≡ true)
 unfolding fitsContent
-status-content i mark.Accepted e = (refl, e)
-status-content i mark.Offered e = absurd (false≢true e)
-status-content i mark.Declined e = absurd (false≢true e)
+status-content i k e = (accepted k (search ands), search ands)
 
 pub content-status : (i : ℕ) → eqb i question ≡ true → fitsContent i mark.Accepted Empty ≡ true
 unfolding fitsContent
 content-status i e = e
 
-pub content-test : (i : ℕ) (k : Mark) (x : Decimal) → fitsContent i k (Number x) ≡ (not (eqb i question) && fits x)
+-- a number's answer: any but for `?`, and for `]` only `N` with `00000`
+pub record NumberContent (i : ℕ) (k : Mark) (x : Decimal) : Type 0 where
+  pub no-status : eqb i question ≡ false
+  pub fit : fits x ≡ true
+  pub no-scan : (not (eqb i scanIdentifier) || (eqb (markOf k) (code "N") && isNone x)) ≡ true
+
+pub number-content : (i : ℕ) (k : Mark) (x : Decimal) → fitsContent i k (Number x) ≡ true → NumberContent i k x
 unfolding fitsContent
-content-test i mark.Accepted x = refl
-content-test i mark.Offered x = refl
-content-test i mark.Declined x = refl
+number-content i k x e = record { no-status = not-is {a = eqb i question} (search ands); fit = search ands; no-scan = search ands }
+
+pub content-number : (i : ℕ) (k : Mark) (x : Decimal) → NumberContent i k x → fitsContent i k (Number x) ≡ true
+unfolding fitsContent
+content-number i k x n = and-both (and-both (is-not (n .no-status)) (n .fit)) (n .no-scan)
+
+declined : (k : Mark) → eqb (markOf k) (code "N") ≡ true → k ≡ mark.Declined
+declined mark.Accepted e = absurd (false≢true e)
+declined mark.Offered e = absurd (false≢true e)
+declined mark.Declined e = refl
+
+pub none-content : (i : ℕ) (k : Mark) (x : Decimal) → eqb i scanIdentifier ≡ true → NumberContent i k x → (k ≡ mark.Declined) × (x ≡ withDecimals (pos 0) 0)
+unfolding isNone
+none-content i k x e n =
+    let t : (eqb (markOf k) (code "N") && isNone x) ≡ true = rw e at (n .no-scan) in
+    (declined k (search ands), ap₂ withDecimals (nothing (x .number) (search ands)) (eqb-true (x .decimals) 0 (search ands)))
+  where
+    nothing : (z : ℤ) → eqb (natAbs z) 0 ≡ true → z ≡ pos 0
+    nothing (pos n) e = ap pos (eqb-true n 0 e)
+    nothing (negsuc n) e = absurd (let z = eqb-true (suc n) 0 e in omega arith)
+
+-- the answer of a scan
+pub record ScanContent (i : ℕ) (k : Mark) (xs : List Decimal) : Type 0 where
+  pub is-accepted : k ≡ mark.Accepted
+  pub is-scan : eqb i scanIdentifier ≡ true
+  pub fit : every fits xs ≡ true
+
+pub four-content : (i : ℕ) (k : Mark) (a b c d : Decimal) → fitsContent i k (Four a b c d) ≡ true → ScanContent i k (a ∷ b ∷ c ∷ d ∷ [])
+unfolding fitsContent
+four-content i k a b c d e = record { is-accepted = accepted k (search ands); is-scan = search ands; fit = and-right (eqb (markOf k) (code "A") && eqb i scanIdentifier) _ e }
+
+pub five-content : (i : ℕ) (k : Mark) (a b c d f : Decimal) → fitsContent i k (Five a b c d f) ≡ true → ScanContent i k (a ∷ b ∷ c ∷ d ∷ f ∷ [])
+unfolding fitsContent
+five-content i k a b c d f e = record { is-accepted = accepted k (search ands); is-scan = search ands; fit = and-right (eqb (markOf k) (code "A") && eqb i scanIdentifier) _ e }
+
+pub scan-four : (i : ℕ) (a b c d : Decimal) → eqb i scanIdentifier ≡ true → every fits (a ∷ b ∷ c ∷ d ∷ []) ≡ true → fitsContent i mark.Accepted (Four a b c d) ≡ true
+unfolding fitsContent
+scan-four i a b c d e f = and-both e f
+
+pub scan-five : (i : ℕ) (a b c d g : Decimal) → eqb i scanIdentifier ≡ true → every fits (a ∷ b ∷ c ∷ d ∷ g ∷ []) ≡ true → fitsContent i mark.Accepted (Five a b c d g) ≡ true
+unfolding fitsContent
+scan-five i a b c d g e f = and-both e f
 
 -- ---- characters and back
 
@@ -100,10 +144,20 @@ mark-small mark.Accepted = lit< tt
 mark-small mark.Offered = lit< tt
 mark-small mark.Declined = lit< tt
 
+data-small : (x : Decimal) → Small (spellData x)
+data-small x = plain-small (spellData x) (plain-digits (spellData x) (data-digits x))
+
+all-small : (xs : List Decimal) → Small (spellAll xs)
+unfolding spellAll
+all-small [] = tt
+all-small (x ∷ xs) = small-append (spellData x) (spellAll xs) (data-small x) (all-small xs)
+
 content-small : (x : Content) → Small (spellContent x)
-unfolding spellContent
+unfolding spellContent spellScan digit
 content-small Empty = tt
-content-small (Number x) = plain-small (spellData x) (plain-digits (spellData x) (data-digits x))
+content-small (Number x) = data-small x
+content-small (Four a b c d) = (lit< tt, (lit< tt, all-small (a ∷ b ∷ c ∷ d ∷ [])))
+content-small (Five a b c d e) = (lit< tt, (lit< tt, all-small (a ∷ b ∷ c ∷ d ∷ e ∷ [])))
 
 pub answer-small : (a : Answer) → AnswerParts a → Small (spellAnswer a)
 unfolding spellAnswer
@@ -121,24 +175,16 @@ mark-back mark.Accepted = refl
 mark-back mark.Offered = refl
 mark-back mark.Declined = refl
 
--- five characters, and the one behind them
-record Five (xs : List ℕ) (rest : List ℕ) : Type 0 where
-  back : getD (xs ++ rest) 0 0 ∷ getD (xs ++ rest) 1 0 ∷ getD (xs ++ rest) 2 0 ∷ getD (xs ++ rest) 3 0 ∷ getD (xs ++ rest) 4 0 ∷ [] ≡ xs
-  next : getD (xs ++ rest) 5 0 ≡ getD rest 0 0
+-- the character before the last
+before-last : (xs : List ℕ) (m s : ℕ) → getD (xs ++ (m ∷ s ∷ [])) (length (xs ++ (m ∷ s ∷ [])) - 2) 0 ≡ m
+before-last xs m s =
+    let n : length (xs ++ (m ∷ s ∷ [])) - 2 ≡ length xs + 0 = omega (arith, length-append xs (m ∷ s ∷ [])) in
+    ap (λ (k : ℕ). getD (xs ++ (m ∷ s ∷ [])) k 0) n ∙ getD-append-add xs (m ∷ s ∷ []) 0 0
 
-five-back : (xs rest : List ℕ) → length xs ≡ 5 → Five xs rest
-five-back [] rest h = absurd (omega arith)
-five-back (a ∷ []) rest h = absurd (omega arith)
-five-back (a ∷ b ∷ []) rest h = absurd (omega arith)
-five-back (a ∷ b ∷ c ∷ []) rest h = absurd (omega arith)
-five-back (a ∷ b ∷ c ∷ d ∷ []) rest h = absurd (omega arith)
-five-back (a ∷ b ∷ c ∷ d ∷ e ∷ []) rest h = record { back = refl; next = refl }
-five-back (a ∷ b ∷ c ∷ d ∷ e ∷ f ∷ xs) rest h = absurd (omega arith)
-
-data-back : (i : ℕ) (rest : List ℕ) (x : Decimal) → fits x ≡ true → contentOf (readData (five (i ∷ (spellData x ++ rest)))) ≡ Number x
-unfolding five contentOf
-data-back i rest x h =
-    ap (λ (xs : List ℕ). contentOf (readData xs)) (five-back (spellData x) rest (data-length x) .back) ∙ ap contentOf (read-written x h)
+-- a number that stands from a place on
+number-back : (cs : List ℕ) (k : ℕ) (x : Decimal) → fits x ≡ true → take 5 (drop k cs) ≡ spellData x → numberAt cs k ≡ x
+unfolding numberAt decimalOf
+number-back cs k x h e = ap (λ (ds : List ℕ). decimalOf (readData ds)) e ∙ ap decimalOf (read-written x h)
 
 one-digit : (l a i : ℕ) (xs : List ℕ) → isIdentifier i ≡ true → guess (l ∷ digit a ∷ i ∷ xs) ≡ guessBehind l a (i ∷ xs)
 unfolding guess
@@ -151,24 +197,57 @@ two-digits l a xs e =
     let q : (a / 10 * 10 + a % 10) % 100 ≡ a = ap (λ (n : ℕ). n % 100) (div-add-mod' a 10) ∙ mod-eq-of-lt (omega arith) in
     rw (digit-is (a % 10) (omega arith), digit-back (a / 10), digit-back (a % 10), q)
 
-empty-content : (i : ℕ) (k : Mark) → fitsContent i k Empty ≡ true → (eqb i question ≡ true) × (k ≡ mark.Accepted)
-unfolding fitsContent
-empty-content i mark.Accepted e = (e, refl)
-empty-content i mark.Offered e = absurd (false≢true e)
-empty-content i mark.Declined e = absurd (false≢true e)
+-- `]` is not `?`
+pub scan-no-status : (i : ℕ) → eqb i scanIdentifier ≡ true → eqb i question ≡ false
+scan-no-status i e = ne-eqb i question (λ q. let z = eqb-true i scanIdentifier e in apart (sym q ∙ z))
+  where
+    apart : question ≡ scanIdentifier → ⊥
+    apart z = omega arith
+
+-- each of a list that all pass the test
+every-nth : (xs : List Decimal) (j : ℕ) → every fits xs ≡ true → j < length xs → fits (nth xs j) ≡ true
+unfolding every
+every-nth [] j e h = absurd (none j h)
+  where
+    none : (j : ℕ) → j < 0 → ⊥
+    none j h = omega arith
+every-nth (x ∷ xs) zero e h = and-left (fits x) (every fits xs) e
+every-nth (x ∷ xs) (suc j) e h = every-nth xs j (and-right (fits x) (every fits xs) e) (omega arith)
+
+-- the values of a scan, each in its place behind the identifier and the count of digits
+each-back : (i x y : ℕ) (xs : List Decimal) (rest : List ℕ) (j : ℕ) → every fits xs ≡ true → j < length xs → numberAt (i ∷ x ∷ y ∷ (spellAll xs ++ rest)) (3 + 5 * j) ≡ nth xs j
+each-back i x y xs rest j e h =
+    number-back (i ∷ x ∷ y ∷ (spellAll xs ++ rest)) (3 + 5 * j) (nth xs j) (every-nth xs j e h)
+    (ap (take 5) (sym (drop-drop (5 * j) 3 (i ∷ x ∷ y ∷ (spellAll xs ++ rest)))) ∙ each-data xs j rest h)
 
 -- from the identifier on
+content-back : (i : ℕ) (rest : List ℕ) (k : Mark) (y : Content) → fitsContent i k y ≡ true → length rest ≡ 2 → cond (eqb i question) Empty (guessContent (i ∷ (spellContent y ++ rest))) ≡ y
+unfolding guessContent spellContent spellScan
+content-back i rest k Empty e n = rw (status-content i k e .1)
+content-back i rest k (Number x) e n =
+    let f = number-content i k x e in
+    let l : length (i ∷ (spellData x ++ rest)) ≡ 8 = omega (arith, length-append (spellData x) rest, data-length x) in
+    rw (f .no-status) (rw l (ap Number (number-back (i ∷ (spellData x ++ rest)) 1 x (f .fit) (first-data x rest .0))))
+content-back i rest k (Four a b c d) e n =
+    let xs : List Decimal = a ∷ b ∷ c ∷ d ∷ [] in
+    let f = four-content i k a b c d e in
+    let q = each-back i (digit 2) (digit 0) xs rest in
+    let l : length (i ∷ digit 2 ∷ digit 0 ∷ (spellAll xs ++ rest)) ≡ 25 = omega (arith, length-append (spellAll xs) rest, all-length xs) in
+    rw (scan-no-status i (f .is-scan)) (rw l (λ j. Four (q 0 (f .fit) (lit< tt) j) (q 1 (f .fit) (lit< tt) j) (q 2 (f .fit) (lit< tt) j) (q 3 (f .fit) (lit< tt) j)))
+content-back i rest k (Five a b c d g) e n =
+    let xs : List Decimal = a ∷ b ∷ c ∷ d ∷ g ∷ [] in
+    let f = five-content i k a b c d g e in
+    let q = each-back i (digit 2) (digit 5) xs rest in
+    let l : length (i ∷ digit 2 ∷ digit 5 ∷ (spellAll xs ++ rest)) ≡ 30 = omega (arith, length-append (spellAll xs) rest, all-length xs) in
+    rw (scan-no-status i (f .is-scan)) (rw l (λ j. Five (q 0 (f .fit) (lit< tt) j) (q 1 (f .fit) (lit< tt) j) (q 2 (f .fit) (lit< tt) j) (q 3 (f .fit) (lit< tt) j) (q 4 (f .fit) (lit< tt) j)))
+
 behind : (l a i : ℕ) (k : Mark) (y : Content) → fitsContent i k y ≡ true
     → guessBehind l a (i ∷ (spellContent y ++ (markOf k ∷ star ∷ []))) ≡ record { letter = l; address = a; identifier = i; mark = k; content = y }
-unfolding guessBehind spellContent
-behind l a i k Empty e =
-    rw (empty-content i k e .0) (λ j. record { letter = l; address = a; identifier = i; mark = mark-back k j; content = Empty })
-behind l a i k (Number x) e =
-    let f = number-content i k x e in
-    let g = five-back (spellData x) (markOf k ∷ star ∷ []) (data-length x) in
-    let c : contentOf (readData (five (i ∷ (spellData x ++ (markOf k ∷ star ∷ []))))) ≡ Number x = data-back i (markOf k ∷ star ∷ []) x (f .1) in
-    let m : guessMark (getD (spellData x ++ (markOf k ∷ star ∷ [])) 5 0) ≡ k = ap guessMark (g .next) ∙ mark-back k in
-    rw (f .0) (λ j. record { letter = l; address = a; identifier = i; mark = m j; content = c j })
+unfolding guessBehind
+behind l a i k y e =
+    let m = ap guessMark (before-last (i ∷ spellContent y) (markOf k) star) ∙ mark-back k in
+    let c = content-back i (markOf k ∷ star ∷ []) k y e refl in
+    λ j. record { letter = l; address = a; identifier = i; mark = m j; content = c j }
 
 -- an answer is guessed from its spelling: an address of one digit, or of two
 pub guess-spelled : (a : Answer) → AnswerParts a → guess (spellAnswer a) ≡ a
@@ -226,15 +305,76 @@ read-exact bs a e =
 pub character-behind : (cs : List ℕ) (k j : ℕ) → getD cs (k + j) 0 ≡ getD (drop k cs) j 0
 character-behind cs k j = sym (getD-drop k cs j 0)
 
-module _ (l a i : ℕ) (k : Mark) (cs : List ℕ) (e : i ≡ getD cs 0 0) where
-  pub behind-status : i ≡ question → k ≡ guessMark (getD cs 1 0) → record { letter = l; address = a; identifier = i; mark = k; content = Empty } ≡ guessBehind l a cs
-  unfolding guessBehind
-  behind-status q m = rw (eq-eqb (getD cs 0 0) question (sym e ∙ q)) (λ j. record { letter = l; address = a; identifier = e j; mark = m j; content = Empty })
+pub characters-long : (bs : List ℕ) → length (charactersOf bs) ≡ length bs
+unfolding charactersOf
+characters-long bs = length-map bs (λ (b : ℕ). b % 128)
 
-  pub behind-number : (y : Content) → (i ≡ question → ⊥) → k ≡ guessMark (getD cs 6 0) → y ≡ contentOf (readData (five cs))
-      → record { letter = l; address = a; identifier = i; mark = k; content = y } ≡ guessBehind l a cs
+-- fewer than five characters are no number
+pub number-short : (cs : List ℕ) (k : ℕ) → length cs < k + 5 → numberAt cs k ≡ withDecimals (pos 0) 0
+unfolding numberAt decimalOf
+number-short cs k h = go (readData (take 5 (drop k cs))) refl
+  where
+    go : (x : Data) → readData (take 5 (drop k cs)) ≡ x → decimalOf x ≡ withDecimals (pos 0) 0
+    go (Partial n v) e = refl
+    go (read.Number x) e = absurd (omega (arith, read-length (take 5 (drop k cs)) x e, length-take 5 (drop k cs), length-drop k cs))
+    go Invalid e = refl
+
+-- five characters, one after the other
+pub five-at : (cs : List ℕ) (k : ℕ) → k + 5 ≤ length cs
+    → getD cs k 0 ∷ getD cs (k + 1) 0 ∷ getD cs (k + 2) 0 ∷ getD cs (k + 3) 0 ∷ getD cs (k + 4) 0 ∷ [] ≡ take 5 (drop k cs)
+five-at cs k h =
+    let z : k ≡ k + 0 = omega arith in
+    let l : length (take 5 (drop k cs)) ≡ 5 = omega (arith, length-take 5 (drop k cs), length-drop k cs) in
+    (λ j. (ap (λ (i : ℕ). getD cs i 0) z ∙ its 0 (lit< tt)) j ∷ its 1 (lit< tt) j ∷ its 2 (lit< tt) j ∷ its 3 (lit< tt) j ∷ its 4 (lit< tt) j ∷ []) ∙ five-are (take 5 (drop k cs)) l
+  where
+    its : (i : ℕ) → i < 5 → getD cs (k + i) 0 ≡ getD (take 5 (drop k cs)) i 0
+    its i h = character-behind cs k i ∙ sym (getD-take 5 (drop k cs) i 0 h)
+
+-- a number from k on, by its place among all characters
+number-behind : (cs : List ℕ) (k j : ℕ) → numberAt cs (k + j) ≡ numberAt (drop k cs) j
+unfolding numberAt
+number-behind cs k j = sym (ap (λ (l : List ℕ). decimalOf (readData (take 5 l))) (drop-drop j k cs))
+
+-- the numbers that the code has read, by how many characters there are
+module _ (bs : List ℕ) (k : ℕ) where
+  abbrev all : List ℕ
+  all = charactersOf bs
+
+  abbrev its : List ℕ
+  its = drop k all
+
+  many : (n : ℕ) → 0 < n → length bs ≡ k + n → length its ≡ n
+  many n z e = omega (arith, length-drop k all, characters-long bs)
+
+  module _ {a b c d : Decimal} (ea : a ≡ numberAt all (k + 3)) (eb : b ≡ numberAt all (k + 8)) (ec : c ≡ numberAt all (k + 13)) (ed : d ≡ numberAt all (k + 18)) where
+    pub guess-four : length bs ≡ k + 25 → Four a b c d ≡ guessContent its
+    unfolding guessContent
+    guess-four e =
+        rw (many 25 (lit< tt) e)
+        (λ j. Four ((ea ∙ number-behind all k 3) j) ((eb ∙ number-behind all k 8) j) ((ec ∙ number-behind all k 13) j) ((ed ∙ number-behind all k 18) j))
+
+    pub guess-five : {f : Decimal} → f ≡ numberAt all (k + 23) → length bs ≡ k + 30 → Five a b c d f ≡ guessContent its
+    unfolding guessContent
+    guess-five ef e =
+        rw (many 30 (lit< tt) e)
+        (λ j. Five ((ea ∙ number-behind all k 3) j) ((eb ∙ number-behind all k 8) j) ((ec ∙ number-behind all k 13) j) ((ed ∙ number-behind all k 18) j) ((ef ∙ number-behind all k 23) j))
+
+  pub guess-number : {a : Decimal} → a ≡ numberAt all (k + 1) → (length bs ≡ k + 25 → ⊥) → (length bs ≡ k + 30 → ⊥) → Number a ≡ guessContent its
+  unfolding guessContent
+  guess-number ea f g =
+      rw (ne-eqb (length its) 25 (λ e. f (long 24 e)), ne-eqb (length its) 30 (λ e. g (long 29 e))) (ap Number (ea ∙ number-behind all k 1))
+    where
+      long : (n : ℕ) → length its ≡ suc n → length bs ≡ k + suc n
+      long n e = omega (arith, length-drop k all, characters-long bs)
+
+module _ (l a i : ℕ) (k : Mark) (cs : List ℕ) (e : i ≡ getD cs 0 0) (m : k ≡ guessMark (getD cs (length cs - 2) 0)) where
+  pub behind-status : i ≡ question → record { letter = l; address = a; identifier = i; mark = k; content = Empty } ≡ guessBehind l a cs
   unfolding guessBehind
-  behind-number y q m n = rw (ne-eqb (getD cs 0 0) question (λ z. q (e ∙ z))) (λ j. record { letter = l; address = a; identifier = e j; mark = m j; content = n j })
+  behind-status q = rw (eq-eqb (getD cs 0 0) question (sym e ∙ q)) (λ j. record { letter = l; address = a; identifier = e j; mark = m j; content = Empty })
+
+  pub behind-number : (y : Content) → (i ≡ question → ⊥) → y ≡ guessContent cs → record { letter = l; address = a; identifier = i; mark = k; content = y } ≡ guessBehind l a cs
+  unfolding guessBehind
+  behind-number y q n = rw (ne-eqb (getD cs 0 0) question (λ z. q (e ∙ z))) (λ j. record { letter = l; address = a; identifier = e j; mark = m j; content = n j })
 
 pub guess-two : (cs : List ℕ) → isDigit (getD cs 2 0) ≡ true → guess cs ≡ guessBehind (getD cs 0 0) ((digitOf (getD cs 1 0) * 10 + digitOf (getD cs 2 0)) % 100) (drop 3 cs)
 unfolding guess

@@ -1,7 +1,8 @@
--- A reply's spelling: at most eleven bytes, and the parts of which it is put together. Assumes nothing.
-use mathlib.Core.Path.{_≡_, refl, sym, ap, ap₂, _∙_}
+-- A reply's spelling: at most 33 bytes, and the parts of which it is put together. Assumes nothing.
+use mathlib.Core.Path.{_≡_, refl, sym, ap, ap₂, _∙_, subst}
 use mathlib.Core.List.{List, [], _∷_, _++_, append-assoc}
 use Prim.Native.Nat.{ℕ, _+_, _/_, _%_, _<_, _≤_}
+use Prim.Native.Char.{code}
 use native.Mathlib.Omega.{arith}
 use borrow.Author.Tests.{le-leb, lt-leb}
 use lib.Dec.{lit≤}
@@ -12,22 +13,23 @@ use Rattle.refusal.specs.Call.{Call, callOf, placeCall}
 use Rattle.refusal.specs.declared.Refusal.{Refusal}
 use Rattle.refusal.specs.declared.Written.{Written}
 use Rattle.refusal.specs.declared.Written.the-variants.{Wrote, Refused}
-use Rattle.refusal.proofs.Buffers.{placed-both, placed-length, placed-front, laid-front}
+use Rattle.refusal.proofs.Buffers.{placed-nothing, placed-both, placed-length, placed-front, laid-front, placed-ahead}
 use Rattle.refusal.proofs.Checks.{refused-gave}
 use Rattle.refusal.proofs.Calls.{placed-call, fits-at}
 use Rattle.wire.specs.Word.{travelling}
 use Rattle.wire.proofs.Words.{travelling-append, travelling-length}
 use Rattle.number.specs.declared.Decimal.{Decimal}
-use Rattle.number.specs.Data.{digit, spellData}
+use Rattle.number.specs.Data.{digit, spellData, spellAll}
 use Rattle.number.proofs.Digits.{data-length}
+use Rattle.number.proofs.Several.{all-length}
 use Rattle.message.specs.Message.{star}
 use Rattle.message.specs.Spell.{spellAddress}
 use Rattle.message.proofs.Spelling.{address-length}
 use Rattle.reply.specs.declared.Content.{Content}
-use Rattle.reply.specs.declared.Content.the-variants.{Empty, Number}
+use Rattle.reply.specs.declared.Content.the-variants.{Empty, Number, Four, Five}
 use Rattle.reply.specs.declared.Answer.{Answer}
-use Rattle.reply.specs.Reply.{longestReply, markOf, spellContent, spellAnswer}
-use Rattle.reply.specs.Inner.{spellFront, spellEnd}
+use Rattle.reply.specs.Reply.{longestReply, markOf, spellScan, spellContent, spellAnswer}
+use Rattle.reply.specs.Inner.{spellFront}
 
 -- ---- lengths
 
@@ -39,10 +41,29 @@ pub number-data : (x : Decimal) → spellContent (Number x) ≡ spellData x
 unfolding spellContent
 number-data x = refl
 
-pub content-length : (x : Content) → length (spellContent x) ≤ 5
+-- four numbers and five: how many digits there are, and the digits
+pub four-data : (a b c d : Decimal) → spellContent (Four a b c d) ≡ code "2" ∷ code "0" ∷ spellAll (a ∷ b ∷ c ∷ d ∷ [])
+unfolding spellContent spellScan digit
+four-data a b c d = refl
+
+pub five-data : (a b c d e : Decimal) → spellContent (Five a b c d e) ≡ code "2" ∷ code "5" ∷ spellAll (a ∷ b ∷ c ∷ d ∷ e ∷ [])
+unfolding spellContent spellScan digit
+five-data a b c d e = refl
+
+pub four-length : (a b c d : Decimal) → length (spellContent (Four a b c d)) ≡ 22
+unfolding spellContent spellScan
+four-length a b c d = omega (arith, all-length (a ∷ b ∷ c ∷ d ∷ []))
+
+pub five-length : (a b c d e : Decimal) → length (spellContent (Five a b c d e)) ≡ 27
+unfolding spellContent spellScan
+five-length a b c d e = omega (arith, all-length (a ∷ b ∷ c ∷ d ∷ e ∷ []))
+
+pub content-length : (x : Content) → length (spellContent x) ≤ 27
 unfolding spellContent
 content-length Empty = lit≤ tt
 content-length (Number x) = omega (arith, data-length x)
+content-length (Four a b c d) = omega (arith, four-length a b c d)
+content-length (Five a b c d e) = omega (arith, five-length a b c d e)
 
 -- with one digit of address, and with two
 pub front-one : (l a i : ℕ) → a ≤ 9 → spellFront l a i ≡ l ∷ (48 + a) ∷ i ∷ []
@@ -58,52 +79,78 @@ unfolding spellFront
 front-length l a i = omega (arith, length-append (spellAddress a) (i ∷ []), address-length a)
 
 -- the parts of an answer's spelling
-pub answer-parted : (a : Answer) → spellFront (a .letter) (a .address) (a .identifier) ++ (spellContent (a .content) ++ spellEnd (markOf (a .mark))) ≡ spellAnswer a
-unfolding spellAnswer spellFront spellEnd
+pub answer-parted : (a : Answer) → spellFront (a .letter) (a .address) (a .identifier) ++ (spellContent (a .content) ++ (markOf (a .mark) ∷ star ∷ [])) ≡ spellAnswer a
+unfolding spellAnswer spellFront
 answer-parted a =
     ap (λ (l : List ℕ). a .letter ∷ l) (append-assoc (spellAddress (a .address)) (a .identifier ∷ []) (spellContent (a .content) ++ (markOf (a .mark) ∷ star ∷ [])))
 
 pub answer-sum : (a : Answer) → length (spellAnswer a) ≡ length (spellFront (a .letter) (a .address) (a .identifier)) + length (spellContent (a .content)) + 2
-unfolding spellEnd
 answer-sum a =
     let f = spellFront (a .letter) (a .address) (a .identifier) in
     let c = spellContent (a .content) in
-    let e = spellEnd (markOf (a .mark)) in
+    let e = (markOf (a .mark) ∷ star ∷ []) in
     omega (arith, ap length (answer-parted a), length-append f (c ++ e), length-append c e)
 
--- document 01: "No reply is longer than 11 bytes."
+-- document 02, ticket 1: "Longest reply becomes 33 bytes"
 pub answer-length : (a : Answer) → length (spellAnswer a) ≤ longestReply
 answer-length a = omega (arith, answer-sum a, front-length (a .letter) (a .address) (a .identifier), content-length (a .content))
 
 -- ---- part by part into a buffer
 
-pub three-placed : (xs ys zs : List ℕ) (at : ℕ) (out : List ℕ) → at ≤ length out
-    → placed zs (at + length xs + length ys) (placed ys (at + length xs) (placed xs at out)) ≡ placed (xs ++ (ys ++ zs)) at out
-three-placed xs ys zs at out h =
-    let n : at + length xs + length ys ≡ at + length (xs ++ ys) = omega (arith, length-append xs ys) in
-    ap₂ (λ (k : ℕ) (l : List ℕ). placed zs k l) n (placed-both xs at out h ys)
-    ∙ placed-both (xs ++ ys) at out h zs
-    ∙ ap (λ (l : List ℕ). placed l at out) (append-assoc xs ys zs)
+-- these characters stand in the buffer from a place on, as they travel; the next place is behind them
+pub record Stands (xs : List ℕ) (at : ℕ) (out : List ℕ) (next : ℕ) (out′ : List ℕ) : Type 0 where
+  pub ends : next ≡ at + length xs
+  pub leaves : out′ ≡ placed (travelling xs) at out
 
--- characters in place of their bytes
-pub parts-travel : (xs ys zs : List ℕ) → travelling xs ++ (travelling ys ++ travelling zs) ≡ travelling (xs ++ (ys ++ zs))
-parts-travel xs ys zs = sym (travelling-append xs (ys ++ zs) ∙ ap (λ (l : List ℕ). travelling xs ++ l) (travelling-append ys zs))
+-- as a call that places them says it
+pub stands-from : (xs : List ℕ) {n at next : ℕ} (out : List ℕ) {out′ : List ℕ} → length xs ≡ n → (next ≡ at + n) × (out′ ≡ placed (travelling xs) at out) → Stands xs at out next out′
+stands-from xs out l e = record { ends = omega (arith, e .0); leaves = e .1 }
 
--- an answer's parts, written one behind the other
-pub answer-placed : (a : Answer) (at : ℕ) (out o₁ o₂ o₃ : List ℕ) (p₁ p₂ : ℕ) → at ≤ length out
-    → p₁ ≡ at + length (spellFront (a .letter) (a .address) (a .identifier)) → o₁ ≡ placed (travelling (spellFront (a .letter) (a .address) (a .identifier))) at out
-    → p₂ ≡ p₁ + length (spellContent (a .content)) → o₂ ≡ placed (travelling (spellContent (a .content))) p₁ o₁
-    → o₃ ≡ placed (travelling (spellEnd (markOf (a .mark)))) p₂ o₂ → o₃ ≡ placed (travelling (spellAnswer a)) at out
-answer-placed a at out o₁ o₂ o₃ p₁ p₂ h e₁ f₁ e₂ f₂ f₃ =
-    let xs = spellFront (a .letter) (a .address) (a .identifier) in
-    let ys = spellContent (a .content) in
-    let zs = spellEnd (markOf (a .mark)) in
-    let q₁ : p₁ ≡ at + length (travelling xs) = e₁ ∙ ap (λ (n : ℕ). at + n) (sym (travelling-length xs)) in
-    let q₂ : p₂ ≡ at + length (travelling xs) + length (travelling ys) = e₂ ∙ ap₂ _+_ q₁ (sym (travelling-length ys)) in
-    f₃
-    ∙ ap₂ (λ (k : ℕ) (l : List ℕ). placed (travelling zs) k l) q₂ (f₂ ∙ ap₂ (λ (k : ℕ) (l : List ℕ). placed (travelling ys) k l) q₁ f₁)
-    ∙ three-placed (travelling xs) (travelling ys) (travelling zs) at out h
-    ∙ ap (λ (l : List ℕ). placed l at out) (parts-travel xs ys zs ∙ ap travelling (answer-parted a))
+pub stands-nothing : (at : ℕ) (out : List ℕ) → Stands [] at out at out
+unfolding travelling
+stands-nothing at out = record { ends = omega arith; leaves = sym (placed-nothing at out) }
+
+-- one part behind the other
+pub stands-both : {xs ys : List ℕ} {at p q : ℕ} {out o₁ o₂ : List ℕ} → at ≤ length out → Stands xs at out p o₁ → Stands ys p o₁ q o₂ → Stands (xs ++ ys) at out q o₂
+stands-both {xs} {ys} {at} {p} {q} {out} h f g =
+    let e : p ≡ at + length (travelling xs) = f .ends ∙ ap (λ (n : ℕ). at + n) (sym (travelling-length xs)) in
+    record {
+      ends = omega (arith, f .ends, g .ends, length-append xs ys);
+      leaves =
+          g .leaves
+          ∙ ap₂ (λ (k : ℕ) (l : List ℕ). placed (travelling ys) k l) e (f .leaves)
+          ∙ placed-both (travelling xs) at out h (travelling ys)
+          ∙ ap (λ (l : List ℕ). placed l at out) (sym (travelling-append xs ys));
+    }
+
+-- one part before another that stands there
+pub stands-ahead : {xs ys : List ℕ} {at p q : ℕ} {out o₁ o₂ : List ℕ} → at + length xs ≤ length out → Stands ys p out q o₁ → Stands xs at o₁ p o₂ → Stands (xs ++ ys) at out q o₂
+stands-ahead {xs} {ys} {at} {p} {q} {out} h g f =
+    let n = travelling-length xs in
+    let e : p ≡ at + length (travelling xs) = f .ends ∙ ap (λ (n : ℕ). at + n) (sym n) in
+    record {
+      ends = omega (arith, f .ends, g .ends, length-append xs ys);
+      leaves =
+          f .leaves
+          ∙ ap (placed (travelling xs) at) (g .leaves ∙ ap (λ (k : ℕ). placed (travelling ys) k out) e)
+          ∙ placed-ahead (travelling xs) at (travelling ys) out (omega arith)
+          ∙ ap (λ (l : List ℕ). placed l at out) (sym (travelling-append xs ys));
+    }
+
+-- the same characters said otherwise
+pub stands-as : {xs ys : List ℕ} {at next : ℕ} {out out′ : List ℕ} → xs ≡ ys → Stands xs at out next out′ → Stands ys at out next out′
+stands-as {at = at} {next = next} {out = out} {out′ = out′} e s = subst (λ (l : List ℕ). Stands l at out next out′) e s
+
+-- the same place said otherwise
+pub stands-at : {xs : List ℕ} {p q next : ℕ} {out out′ : List ℕ} → p ≡ q → Stands xs p out next out′ → Stands xs q out next out′
+stands-at {xs} {next = next} {out = out} {out′ = out′} e s = subst (λ (k : ℕ). Stands xs k out next out′) e s
+
+-- there is room behind them
+pub stands-in : {xs : List ℕ} {at next : ℕ} {out out′ : List ℕ} → at + length xs ≤ length out → Stands xs at out next out′ → (next ≤ length out′) × (length out′ ≡ length out)
+stands-in {xs} {at} {next} {out} h s =
+    let n = travelling-length xs in
+    let l = ap length (s .leaves) ∙ placed-length (travelling xs) at out (omega arith) in
+    (omega (arith, s .ends, l), l)
 
 -- ---- into an array that has room for every reply
 

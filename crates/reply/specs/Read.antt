@@ -2,23 +2,25 @@
 -- answer and is spelled with these very bytes.
 use mathlib.Core.Bool.{Bool, cond, not, _&&_}
 use mathlib.Core.List.{List, [], _∷_, map}
-use Prim.Native.Nat.{ℕ, _+_, _*_, _%_}
+use Prim.Native.Nat.{ℕ, _+_, _-_, _*_, _%_}
 use Prim.Native.Char.{code}
 use lib.Dec.{eqb}
-use lib.ListN.{getD, drop}
+use lib.IntN.{pos}
+use lib.ListN.{length, getD, take, drop}
 use Rattle.refusal.specs.Lists.{same}
 use Rattle.refusal.specs.Refusal.{Outcome, refused, gave, numberOf}
 use Rattle.refusal.specs.Check.{refuseIf, first, decided}
 use Rattle.refusal.specs.declared.Refusal.the-variants.{NotReply}
 use Rattle.wire.specs.Word.{travelling}
+use Rattle.number.specs.declared.Decimal.{Decimal}
 use Rattle.number.specs.declared.Data.{Data}
 use Rattle.number.specs.declared.Data.the-variants as read
-use Rattle.number.specs.Data.{isDigit, digitOf, readData}
+use Rattle.number.specs.Data.{isDigit, digitOf, withDecimals, readData}
 use Rattle.message.specs.Message.{question}
 use Rattle.reply.specs.declared.Mark.{Mark}
 use Rattle.reply.specs.declared.Mark.the-variants as mark
 use Rattle.reply.specs.declared.Content.{Content}
-use Rattle.reply.specs.declared.Content.the-variants.{Empty, Number}
+use Rattle.reply.specs.declared.Content.the-variants.{Empty, Number, Four, Five}
 use Rattle.reply.specs.declared.Answer.{Answer}
 use Rattle.reply.specs.declared.Reading.{Reading}
 use Rattle.reply.specs.declared.Reading.the-variants.{Refused, Gave}
@@ -32,22 +34,32 @@ charactersOf bs = map (λ (b : ℕ). b % 128) bs
 unfoldable pub guessMark : ℕ → Mark
 guessMark c = cond (eqb c (code "A")) mark.Accepted (cond (eqb c (code "I")) mark.Offered mark.Declined)
 
--- data as it was read
-unfoldable pub contentOf : Data → Content
-contentOf (read.Partial k n) = Empty
-contentOf (read.Number x) = Number x
-contentOf read.Invalid = Empty
+-- a number as it was read; 0 where it was none, which is then spelled otherwise
+unfoldable pub decimalOf : Data → Decimal
+decimalOf (read.Partial k n) = withDecimals (pos 0) 0
+decimalOf (read.Number x) = x
+decimalOf read.Invalid = withDecimals (pos 0) 0
 
--- the five characters behind the identifier, with which cs begins
-unfoldable pub five : List ℕ → List ℕ
-five cs = getD cs 1 0 ∷ getD cs 2 0 ∷ getD cs 3 0 ∷ getD cs 4 0 ∷ getD cs 5 0 ∷ []
+-- the number that stands from a place on
+unfoldable pub numberAt : List ℕ → ℕ → Decimal
+numberAt cs k = decimalOf (readData (take 5 (drop k cs)))
 
--- the letter, the address, and the characters from the identifier on
+-- by how many characters there are from the identifier on: four numbers, five, or one
+unfoldable pub guessContent : List ℕ → Content
+guessContent cs =
+    cond (eqb (length cs) 25) (Four (numberAt cs 3) (numberAt cs 8) (numberAt cs 13) (numberAt cs 18))
+    (cond (eqb (length cs) 30) (Five (numberAt cs 3) (numberAt cs 8) (numberAt cs 13) (numberAt cs 18) (numberAt cs 23)) (Number (numberAt cs 1)))
+
+-- the letter, the address, and the characters from the identifier on; the mark stands before the last
 unfoldable pub guessBehind : ℕ → ℕ → List ℕ → Answer
 guessBehind l a cs =
-    cond (eqb (getD cs 0 0) question)
-    (record { letter = l; address = a; identifier = getD cs 0 0; mark = guessMark (getD cs 1 0); content = Empty })
-    (record { letter = l; address = a; identifier = getD cs 0 0; mark = guessMark (getD cs 6 0); content = contentOf (readData (five cs)) })
+    record {
+      letter = l;
+      address = a;
+      identifier = getD cs 0 0;
+      mark = guessMark (getD cs (length cs - 2) 0);
+      content = cond (eqb (getD cs 0 0) question) Empty (guessContent cs);
+    }
 
 -- behind the letter stand two digits, or one
 unfoldable pub guess : List ℕ → Answer

@@ -1,23 +1,25 @@
 // A reply: the answer it carries, its spelling, and the reader.
 ghost use mathlib.Core.Path.{_≡_};
+ghost use mathlib.Core.List.{[], _∷_};
 ghost use Prim.Native.Nat.{_+_, _≤_};
 ghost use lib.Dec.{eqb};
-ghost use lib.ListN.{length, getD, drop};
-ghost use Rattle.refusal.specs.Lists.{same};
+ghost use lib.ListN.{length};
+ghost use Rattle.refusal.specs.Lists.{every, same};
 ghost use Rattle.refusal.specs.Buffer.{placed};
 ghost use Rattle.refusal.specs.Call.{callOf, placeCall};
 ghost use Rattle.wire.specs.Word.{travelling};
-ghost use Rattle.number.specs.Data.{digitOf, spellData};
-ghost use Rattle.reply.specs.Reply.{markOf, spellContent, spellAnswer, fitsContent, isAnswer};
-ghost use Rattle.reply.specs.Inner.{spellFront, spellEnd};
-ghost use Rattle.reply.specs.Read.{charactersOf, guessMark, contentOf, guessBehind, guess, readCall, outcomeOf};
-use number::Data;
+ghost use Rattle.number.specs.Data.{fits, spellData, spellAll};
+ghost use Rattle.reply.specs.Reply.{markOf, spellContent, spellAnswer, isNone, fitsContent, isAnswer};
+ghost use Rattle.reply.specs.Inner.{spellFront};
+ghost use Rattle.reply.specs.Read.{readCall, outcomeOf};
 use number::Decimal;
 use refusal::Refusal;
 use refusal::Written;
 
+mod guessing;
+
 // The longest reply has this many bytes, `*` included.
-pub const LONGEST_REPLY: usize = 11;
+pub const LONGEST_REPLY: usize = 33;
 
 // `A`, `I` and `N`.
 pub enum Mark {
@@ -26,10 +28,12 @@ pub enum Mark {
     Declined,
 }
 
-// The number with its decimals, if any.
+// The numbers with their decimals, if any: one, or the four or five of a scan.
 pub enum Content {
     Empty,
     Number(Decimal),
+    Four(Decimal, Decimal, Decimal, Decimal),
+    Five(Decimal, Decimal, Decimal, Decimal, Decimal),
 }
 
 pub struct Answer {
@@ -88,12 +92,38 @@ fn place_number(x: Decimal, out: &mut [u8], at: usize) -> usize
     let c = wire::with_parity(digits[2]);
     let d = wire::with_parity(digits[3]);
     let e = wire::with_parity(digits[4]);
-    let bytes = [a, b, c, d, e];
-    wire::place(&bytes, out, at);
+    out[at] = a;
+    out[at + 1] = b;
+    out[at + 2] = c;
+    out[at + 3] = d;
+    out[at + 4] = e;
     at + 5
 }
 
-// The data, if any, in the same way.
+// Four numbers in the same way.
+fn place_four(a: Decimal, b: Decimal, c: Decimal, d: Decimal, out: &mut [u8], at: usize) -> usize
+    requires { ⌜ at + 20 ≤ length (now out) ⌝ }
+    ensures { λ r. ⌜ (r ≡ at + 20) × (now (out .exit) ≡ placed (travelling (spellAll (a ∷ b ∷ c ∷ d ∷ []))) at (now (out .entry))) ⌝ }
+{
+    let second = place_number(a, out, at);
+    let third = place_number(b, out, second);
+    let fourth = place_number(c, out, third);
+    place_number(d, out, fourth)
+}
+
+// Two characters in the same way.
+fn place_two(x: u8, y: u8, out: &mut [u8], at: usize) -> usize
+    requires { ⌜ at + 2 ≤ length (now out) ⌝ }
+    ensures { λ r. ⌜ (r ≡ at + 2) × (now (out .exit) ≡ placed (travelling (x ∷ y ∷ [])) at (now (out .entry))) ⌝ }
+{
+    let first = wire::with_parity(x);
+    let second = wire::with_parity(y);
+    out[at] = first;
+    out[at + 1] = second;
+    at + 2
+}
+
+// The data, if any, in the same way: a number, or how many digits there are and the digits.
 fn place_content(content: Content, out: &mut [u8], at: usize) -> usize
     requires { ⌜ at + length (spellContent content) ≤ length (now out) ⌝ }
     ensures { λ r. ⌜ (r ≡ at + length (spellContent content)) × (now (out .exit) ≡ placed (travelling (spellContent content)) at (now (out .entry))) ⌝ }
@@ -101,18 +131,16 @@ fn place_content(content: Content, out: &mut [u8], at: usize) -> usize
     match content {
         Content::Empty => at,
         Content::Number(x) => place_number(x, out, at),
+        Content::Four(a, b, c, d) => {
+            let first = place_two(b'2', b'0', out, at);
+            place_four(a, b, c, d, out, first)
+        }
+        Content::Five(a, b, c, d, e) => {
+            let first = place_two(b'2', b'5', out, at);
+            let second = place_number(a, out, first);
+            place_four(b, c, d, e, out, second)
+        }
     }
-}
-
-// The mark and the `*` in the same way.
-fn place_end(mark: u8, out: &mut [u8], at: usize)
-    requires { ⌜ at + 2 ≤ length (now out) ⌝ }
-    ensures { λ _. ⌜ now (out .exit) ≡ placed (travelling (spellEnd mark)) at (now (out .entry)) ⌝ }
-{
-    let m = wire::with_parity(mark);
-    let e = wire::with_parity(b'*');
-    let bytes = [m, e];
-    wire::place(&bytes, out, at);
 }
 
 fn content_len(content: Content) -> usize
@@ -121,6 +149,8 @@ fn content_len(content: Content) -> usize
     match content {
         Content::Empty => 0,
         Content::Number(_) => 5,
+        Content::Four(_, _, _, _) => 22,
+        Content::Five(_, _, _, _, _) => 27,
     }
 }
 
@@ -151,21 +181,39 @@ pub fn place(answer: Answer, out: &mut [u8], at: usize) -> Written
     let given = answer.mark;
     let content = answer.content;
     let data = place_front(answer.letter, answer.address, answer.identifier, out, at);
-    let end = place_content(content, out, data);
-    place_end(mark_of(given), out, end);
+    place_two(mark_of(given), b'*', out, at + n - 2);
+    place_content(content, out, data);
     Written::Wrote(n)
+}
+
+// `00000`.
+fn is_none(x: Decimal) -> bool
+    ensures { λ r. ⌜ r ≡ isNone x ⌝ }
+{
+    (number::magnitude(x.number) == 0) & (x.decimals == 0)
+}
+
+fn fits_four(a: Decimal, b: Decimal, c: Decimal, d: Decimal) -> bool
+    ensures { λ r. ⌜ r ≡ every fits (a ∷ b ∷ c ∷ d ∷ []) ⌝ }
+{
+    number::fits(a) & (number::fits(b) & (number::fits(c) & number::fits(d)))
 }
 
 fn fits_content(identifier: u8, mark: Mark, content: Content) -> bool
     ensures { λ r. ⌜ r ≡ fitsContent identifier mark content ⌝ }
 {
+    let m = mark_of(mark);
     match content {
-        Content::Number(x) => (identifier != b'?') & number::fits(x),
-        Content::Empty => match mark {
-            Mark::Accepted => identifier == b'?',
-            Mark::Offered => false,
-            Mark::Declined => false,
-        },
+        Content::Empty => (m == b'A') & (identifier == b'?'),
+        Content::Number(x) => {
+            (identifier != b'?')
+                & number::fits(x)
+                & ((identifier != b']') | ((m == b'N') & is_none(x)))
+        }
+        Content::Four(a, b, c, d) => (m == b'A') & (identifier == b']') & fits_four(a, b, c, d),
+        Content::Five(a, b, c, d, e) => {
+            (m == b'A') & (identifier == b']') & (number::fits(a) & fits_four(b, c, d, e))
+        }
     }
 }
 
@@ -180,89 +228,6 @@ pub fn is_answer(answer: Answer) -> bool
         & message::is_address(answer.address)
         & message::is_identifier(identifier)
         & fits_content(identifier, mark, content)
-}
-
-// The character at a place, parity aside; 0 behind the end.
-fn character_at(bytes: &[u8], k: usize) -> u8
-    ensures { λ r. ⌜ r ≡ getD (charactersOf (now (bytes .entry))) k 0 ⌝ }
-{
-    if k < bytes.len() { bytes[k] % 128 } else { 0 }
-}
-
-fn digit_of(c: u8) -> u8
-    ensures { λ r. ⌜ r ≡ digitOf c ⌝ }
-{
-    if c < 48 { 0 } else { c - 48 }
-}
-
-fn guess_mark(c: u8) -> Mark
-    ensures { λ r. ⌜ r ≡ guessMark c ⌝ }
-{
-    if c == b'A' {
-        return Mark::Accepted;
-    }
-    if c == b'I' {
-        return Mark::Offered;
-    }
-    Mark::Declined
-}
-
-fn content_of(read: Data) -> Content
-    ensures { λ r. ⌜ r ≡ contentOf read ⌝ }
-{
-    match read {
-        Data::Partial { count: _, value: _ } => Content::Empty,
-        Data::Number(x) => Content::Number(x),
-        Data::Invalid => Content::Empty,
-    }
-}
-
-// The identifier stands at k.
-fn guess_behind(bytes: &[u8], address: u8, k: usize) -> Answer
-    requires { ⌜ k ≤ 3 ⌝ }
-    ensures { λ r. ⌜ r ≡ guessBehind (getD (charactersOf (now (bytes .entry))) 0 0) address (drop k (charactersOf (now (bytes .entry)))) ⌝ }
-{
-    let letter = character_at(bytes, 0);
-    let identifier = character_at(bytes, k);
-    if identifier == b'?' {
-        let mark = guess_mark(character_at(bytes, k + 1));
-        let content = Content::Empty;
-        return Answer {
-            letter,
-            address,
-            identifier,
-            mark,
-            content,
-        };
-    }
-    let a = character_at(bytes, k + 1);
-    let b = character_at(bytes, k + 2);
-    let c = character_at(bytes, k + 3);
-    let d = character_at(bytes, k + 4);
-    let e = character_at(bytes, k + 5);
-    let mark = guess_mark(character_at(bytes, k + 6));
-    let content = content_of(number::read_data([a, b, c, d, e]));
-    Answer {
-        letter,
-        address,
-        identifier,
-        mark,
-        content,
-    }
-}
-
-fn guess(bytes: &[u8]) -> Answer
-    ensures { λ r. ⌜ r ≡ guess (charactersOf (now (bytes .entry))) ⌝ }
-{
-    let tens = digit_of(character_at(bytes, 1));
-    let second = character_at(bytes, 2);
-    if number::is_digit(second) {
-        let ones = digit_of(second);
-        let address = (tens as u32 * 10 + ones as u32) % 100;
-        guess_behind(bytes, address as u8, 3)
-    } else {
-        guess_behind(bytes, tens, 2)
-    }
 }
 
 fn equal(a: &[u8], b: &[u8]) -> bool
@@ -296,7 +261,7 @@ fn is_spelling(answer: Answer, bytes: &[u8]) -> bool
 pub fn read(bytes: &[u8]) -> Reading
     ensures { λ r. ⌜ outcomeOf r ≡ readCall (now (bytes .entry)) ⌝ }
 {
-    let answer = guess(bytes);
+    let answer = guessing::guess(bytes);
     if is_answer(answer) & is_spelling(answer, bytes) {
         Reading::Gave(answer)
     } else {

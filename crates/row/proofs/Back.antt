@@ -8,7 +8,7 @@ use native.Mathlib.Omega.{arith}
 use borrow.Author.Tests.{le-leb}
 use lib.IntN.{ℤ, pos}
 use lib.ListN.{length, getD, drop}
-use lib.Seq.{length-take-le, getD-append-add}
+use lib.Seq.{length-take-le, getD-drop, getD-append-add}
 use Rattle.refusal.specs.Buffer.{placed}
 use Rattle.refusal.proofs.Logic.{and-both}
 use Rattle.number.specs.Number.{inRange}
@@ -19,15 +19,15 @@ use Rattle.act.specs.declared.Setup.{Setup}
 use Rattle.act.specs.declared.Offer.{Offer}
 use Rattle.act.specs.declared.Offer.the-variants.{Nothing, Held}
 use Rattle.card.specs.declared.Card.{Card}
-use Rattle.row.specs.Row.{isByte, byteOf, bytesIn, offerOf, setupOf, pendingOf, cardOf, pendingRow, offerRow, changing, storedIn}
-use Rattle.row.proofs.Laws.{pending-length, stored-placed}
+use Rattle.row.specs.Row.{isByte, byteOr, byteOf, bytesIn, offerOf, setupOf, pendingOf, cardOf, pendingRow, offerRow, changing, storedIn}
+use Rattle.row.proofs.Laws.{setup-same, pending-length, offer-length, changing-length, stored-placed}
 
 is-byte : (n : ℕ) → n < 256 → isByte (pos n) ≡ true
 unfolding isByte inRange
 is-byte n h = and-both (le-leb 0 n (omega arith)) (le-leb n 255 (omega arith))
 
 pub byte-back : (n : ℕ) → n < 256 → byteOf (pos n) ≡ n
-unfolding byteOf
+unfolding byteOr
 byte-back n h = rw (is-byte n h)
 
 -- characters that are bytes
@@ -72,20 +72,35 @@ module _ (c : Card) (l : Lent (c .pending)) (small : identifierOf (c .offer) < 2
         let n : 11 ≡ length (pendingRow (c .pending)) = omega (arith, pending-length (c .pending), l .ten) in
         ap (λ (j : ℕ). at (pendingRow (c .pending) ++ q) (j + k)) n ∙ getD-append-add (pendingRow (c .pending)) q k (pos 0)
 
-    card-of : c .setup ≡ setupOf (a ∷ b ∷ rest) → cardOf (a ∷ b ∷ (pendingRow (c .pending) ++ q)) ≡ c
-    unfolding cardOf setupOf
+    abbrev x : List ℤ
+    x = a ∷ b ∷ (pendingRow (c .pending) ++ q)
+
+    unchanged : (k : ℕ) → at x (16 + k) ≡ at rest k
+    unchanged k =
+        let n : 3 ≡ length (offerRow (c .offer)) = sym (offer-length (c .offer)) in
+        let place : 16 + k ≡ suc (suc (11 + (3 + k))) = omega arith in
+        ap (at x) place
+        ∙ behind (3 + k)
+        ∙ ap (λ (j : ℕ). at q (j + k)) n
+        ∙ getD-append-add (offerRow (c .offer)) rest k (pos 0)
+
+    card-of : c .setup ≡ setupOf x → cardOf x ≡ c
+    unfolding cardOf
     card-of e =
-        let x = a ∷ b ∷ (pendingRow (c .pending) ++ q) in
         let o : offerOf (at x 13) (at x 14) (at x 15) ≡ c .offer =
         ap₂ (λ (m i : ℤ). offerOf m i (at x 15)) (behind 0) (behind 1) ∙ ap (offerOf (at q 0) (at q 1)) (behind 2) ∙ offer-back (c .offer) rest small in
         ap₂ (λ (p : Pending) (y : Offer). record { setup = setupOf x; pending = p; offer = y }) (pending-back (c .pending) a b q l) o
         ∙ ap (λ (s : Setup). record { setup = s; pending = c .pending; offer = c .offer }) (sym e)
 
   pub card-back : (row : List ℤ) → 16 ≤ length row → c .setup ≡ setupOf row → cardOf (storedIn c row) ≡ c
-  unfolding placed setupOf
+  unfolding placed
   card-back [] h e = absurd (omega arith)
   card-back (a ∷ []) h e = absurd (omega arith)
   card-back (a ∷ b ∷ rest) h e =
-      let d = drop (2 + length (changing c)) (a ∷ b ∷ rest) in
-      ap cardOf (stored-placed c (a ∷ b ∷ rest) (l .ten) h ∙ ap (λ (x : List ℤ). a ∷ b ∷ x) (append-assoc (pendingRow (c .pending)) (offerRow (c .offer)) d))
-      ∙ card-of a b d e
+      let n = 2 + length (changing c) in
+      let d = drop n (a ∷ b ∷ rest) in
+      let sixteen : n ≡ 16 = omega (arith, changing-length c (a ∷ b ∷ rest) (l .ten)) in
+      let stays : setupOf (a ∷ b ∷ rest) ≡ setupOf (x a b d) =
+      setup-same (a ∷ b ∷ rest) (x a b d) refl refl (λ k. sym (unchanged a b d k ∙ getD-drop n (a ∷ b ∷ rest) k (pos 0) ∙ ap (λ (j : ℕ). at (a ∷ b ∷ rest) (j + k)) sixteen)) in
+      ap cardOf (stored-placed c (a ∷ b ∷ rest) (l .ten) h ∙ ap (λ (y : List ℤ). a ∷ b ∷ y) (append-assoc (pendingRow (c .pending)) (offerRow (c .offer)) d))
+      ∙ card-of a b d (e ∙ stays)

@@ -1,5 +1,5 @@
 -- Laws of rows: what the loops of the code carry, and what a card stored back has left. Assumes nothing.
-use mathlib.Core.Path.{_≡_, refl, sym, ap, _∙_}
+use mathlib.Core.Path.{_≡_, refl, sym, ap, ap₂, _∙_}
 use mathlib.Core.Bool.{Bool, true, false, _&&_}
 use mathlib.Core.List.{List, [], _∷_, _++_, map, append-nil}
 use Prim.Native.Nat.{ℕ, zero, suc, _+_, _<_, _≤_}
@@ -7,7 +7,7 @@ use native.Mathlib.Omega.{arith}
 use borrow.Author.Tests.{le-leb, lt-leb}
 use lib.IntN.{ℤ, pos}
 use lib.ListN.{length, getD, drop, set, length-append, length-map, drop-of-length-le}
-use lib.Seq.{getD-drop, sets, sets-eq}
+use lib.Seq.{getD-drop, drop-drop}
 use Rattle.refusal.specs.Buffer.{laid, fitsAt, placed}
 use Rattle.refusal.proofs.Buffers.{placed-front, placed-one, placed-both}
 use Rattle.sheet.specs.Sheet.{at}
@@ -16,7 +16,7 @@ use Rattle.hearing.specs.Hearing.{openOf}
 use Rattle.act.specs.declared.Offer.{Offer}
 use Rattle.card.specs.declared.Card.{Card}
 use Rattle.act.specs.declared.Offer.the-variants.{Nothing, Held}
-use Rattle.row.specs.Row.{isByte, byteOf, bytesIn, isExactly, offerOf, pendingRow, offerRow, changing, storedIn}
+use Rattle.row.specs.Row.{isByte, byteOf, bytesIn, setupOf, isExactly, offerOf, pendingRow, offerRow, changing, storedIn}
 
 -- ---- bytes read from a row
 
@@ -35,15 +35,28 @@ bytes-at (suc n) (suc k) zs h = bytes-at n k (drop 1 zs) (omega arith) ∙ ap by
 pub byte-read : (row : List ℤ) (from n k : ℕ) → k < n → getD (bytesIn n (drop from row)) k 0 ≡ byteOf (at row (from + k))
 byte-read row from n k h = bytes-at n k (drop from row) h ∙ ap byteOf (getD-drop from row k (pos 0))
 
+-- five numbers from a place on
+bytes-next : (row : List ℤ) (n k : ℕ) → bytesIn (suc n) (drop k row) ≡ byteOf (at row k) ∷ bytesIn n (drop (suc k) row)
+unfolding bytesIn
+bytes-next row n k =
+    let here : k + 0 ≡ k = omega arith in
+    let next : k + 1 ≡ suc k = omega arith in
+    ap₂ (λ (x : ℕ) (xs : List ℕ). x ∷ xs) (ap byteOf (getD-drop k row 0 (pos 0) ∙ ap (at row) here)) (ap (bytesIn n) (drop-drop 1 k row ∙ ap (λ (j : ℕ). drop j row) next))
+
+pub scan-bytes : (row : List ℤ) → bytesIn 5 (drop 17 row) ≡ byteOf (at row 17) ∷ byteOf (at row 18) ∷ byteOf (at row 19) ∷ byteOf (at row 20) ∷ byteOf (at row 21) ∷ []
+unfolding bytesIn
+scan-bytes row = rw (bytes-next row 4 17, bytes-next row 3 18, bytes-next row 2 19, bytes-next row 1 20, bytes-next row 0 21)
+
 -- a list over the whole of a buffer
 pub placed-whole : (xs out : List ℕ) → length out ≤ length xs → placed xs 0 out ≡ xs
 unfolding laid
 placed-whole xs out h = placed-front xs out ∙ ap (λ (l : List ℕ). xs ++ l) (drop-of-length-le out h) ∙ append-nil xs
 
--- elements stored one behind the other
-pub sets-placed : (xs out : List ℤ) (from : ℕ) → from + length xs ≤ length out → sets out from xs ≡ placed xs from out
-unfolding placed
-sets-placed xs out from h = sets-eq xs out from h
+-- the setup by the numbers at its places
+pub setup-same : (row row′ : List ℤ) → at row 0 ≡ at row′ 0 → at row 1 ≡ at row′ 1 → ((k : ℕ) → at row (16 + k) ≡ at row′ (16 + k)) → setupOf row ≡ setupOf row′
+unfolding setupOf
+setup-same row row′ l a h =
+    simp (l, a, h 0, scan-bytes row, scan-bytes row′, h 1, h 2, h 3, h 4, h 5)
 
 -- ---- an offer by its three numbers
 

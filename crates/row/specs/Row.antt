@@ -1,5 +1,5 @@
--- A card as a row of sixteen numbers: 0 letter, 1 address, 2 count of open characters, 3 to 12 the characters (0 behind), 13 mark of
--- an offer (1, or 0 for none), 14 its identifier, 15 its value.
+-- A card as a row of twenty-two numbers: 0 letter, 1 address, 2 count of open characters, 3 to 12 the characters (0 behind), 13 mark of
+-- an offer (1, or 0 for none), 14 its identifier, 15 its value, 16 count of the scan's identifiers, 17 to 21 the identifiers.
 use mathlib.Core.Bool.{Bool, cond, _&&_}
 use mathlib.Core.List.{List, [], _∷_, _++_, map}
 use Prim.Native.Nat.{ℕ, zero, suc}
@@ -23,21 +23,26 @@ use Rattle.card.specs.declared.Card.{Card}
 unfoldable pub isByte : ℤ → Bool
 isByte z = inRange (pos 0) z (pos 255)
 
--- that byte; 0 where there is none
-unfoldable pub byteOf : ℤ → ℕ
-byteOf z = cond (isByte z) (natAbs z) 0
+-- that byte; another where there is none
+unfoldable pub byteOr : ℕ → ℤ → ℕ
+byteOr none z = cond (isByte z) (natAbs z) none
+
+abbrev pub byteOf : ℤ → ℕ
+byteOf z = byteOr 0 z
 
 -- whether the numbers are some card, sound or not; what is none is number 1 in its first place
 unfoldable pub isRow : List ℤ → Bool
-isRow row = eqb (length row) 16 && every isByte (take 13 row)
+isRow row = eqb (length row) 22 && every isByte (take 13 row)
 
 -- the first n of the numbers, each as its byte; 0 behind the last
 unfoldable pub bytesIn : ℕ → List ℤ → List ℕ
 bytesIn zero zs = []
 bytesIn (suc n) zs = byteOf (at zs 0) ∷ bytesIn n (drop 1 zs)
 
+-- a count that is no byte is 255, and an identifier that is none 0, which no sound card names: number 1 in its second place
 unfoldable pub setupOf : List ℤ → Setup
-setupOf row = record { letter = byteOf (at row 0); address = byteOf (at row 1) }
+setupOf row =
+    record { letter = byteOf (at row 0); address = byteOf (at row 1); count = byteOr 255 (at row 16); scan = bytesIn 5 (drop 17 row) }
 
 unfoldable pub pendingOf : List ℤ → Pending
 pendingOf row = record { chars = bytesIn most (drop 3 row); len = byteOf (at row 2) }

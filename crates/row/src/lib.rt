@@ -1,5 +1,6 @@
-// A card as a row of sixteen numbers, for hosts and for what holds many cards: letter, address, count of open characters, ten
-// characters (0 behind), 1 or 0 for an offer, its identifier, its value (0, 0 where there is none).
+// A card as a row of twenty-two numbers, for hosts and for what holds many cards: letter, address, count of open characters, ten
+// characters (0 behind), 1 or 0 for an offer, its identifier, its value (0, 0 where there is none), count of the scan's identifiers,
+// five identifiers.
 ghost use mathlib.Core.Path.{_≡_};
 ghost use mathlib.Core.List.{[], _∷_, map};
 ghost use Prim.Native.Nat.{_≤_};
@@ -9,14 +10,17 @@ ghost use Rattle.refusal.specs.Lists.{every};
 ghost use Rattle.refusal.specs.Buffer.{placed};
 ghost use Rattle.sheet.specs.Sheet.{at as numberAt};
 ghost use Rattle.hearing.specs.Hearing.{most, openOf};
-ghost use Rattle.row.specs.Row.{isByte, byteOf, isRow, bytesIn, setupOf, pendingOf, offerOf, cardOf, pendingRow, offerRow, storedIn};
+ghost use Rattle.row.specs.Row.{isByte, byteOr, byteOf, isRow, bytesIn, setupOf, pendingOf, offerOf, cardOf, pendingRow, offerRow, storedIn};
 use act::Offer;
 use act::Setup;
 use card::Card;
 use hearing::Pending;
 
 // The numbers of a row.
-pub const LENGTH: usize = 16;
+pub const LENGTH: usize = 22;
+
+// Words change the numbers from 2 to the one before this.
+const UNCHANGING: usize = 16;
 
 // ---- from numbers to a card
 
@@ -27,10 +31,11 @@ fn is_byte(x: i32) -> bool
     number::in_range(0, x, 255)
 }
 
-fn byte_of(x: i32) -> u8
-    ensures { λ r. ⌜ r ≡ byteOf x ⌝ }
+// The number as a byte; `none` where it is no byte.
+fn byte_or(none: u8, x: i32) -> u8
+    ensures { λ r. ⌜ r ≡ byteOr none x ⌝ }
 {
-    if is_byte(x) { x as u8 } else { 0 }
+    if is_byte(x) { x as u8 } else { none }
 }
 
 fn all_bytes(numbers: &[i32]) -> bool
@@ -66,7 +71,19 @@ fn number_at(row: &[i32], k: usize) -> i32
 fn byte_at(row: &[i32], k: usize) -> u8
     ensures { λ r. ⌜ r ≡ byteOf (numberAt (now (row .entry)) k) ⌝ }
 {
-    byte_of(number_at(row, k))
+    byte_or(0, number_at(row, k))
+}
+
+// The five identifiers of the scan, named or not.
+fn scan_of(row: &[i32]) -> [u8; act::MOST_NAMED]
+    ensures { λ r. ⌜ r ≡ bytesIn 5 (drop 17 (now (row .entry))) ⌝ }
+{
+    let first = byte_at(row, 17);
+    let second = byte_at(row, 18);
+    let third = byte_at(row, 19);
+    let fourth = byte_at(row, 20);
+    let fifth = byte_at(row, 21);
+    [first, second, third, fourth, fifth]
 }
 
 fn setup_of(row: &[i32]) -> Setup
@@ -74,7 +91,14 @@ fn setup_of(row: &[i32]) -> Setup
 {
     let letter = byte_at(row, 0);
     let address = byte_at(row, 1);
-    Setup { letter, address }
+    let count = byte_or(255, number_at(row, 16));
+    let scan = scan_of(row);
+    Setup {
+        letter,
+        address,
+        count,
+        scan,
+    }
 }
 
 fn chars_of(row: &[i32]) -> [u8; hearing::MOST]
@@ -106,7 +130,7 @@ fn offer_of(mark: i32, identifier: i32, value: i32) -> Offer
         return Offer::Nothing;
     }
     if number::in_range(1, mark, 1) & is_byte(identifier) {
-        let identifier = byte_of(identifier);
+        let identifier = byte_or(0, identifier);
         return Offer::Held { identifier, value };
     }
     Offer::Held {
@@ -190,7 +214,7 @@ fn put_offer(offer: Offer, row: &mut [i32])
 pub fn store(card: Card, row: &mut [i32])
     ensures { λ _. ⌜ now (row .exit) ≡ storedIn card (now (row .entry)) ⌝ }
 {
-    if row.len() < LENGTH {
+    if row.len() < UNCHANGING {
         return;
     }
     let pending = card.pending;

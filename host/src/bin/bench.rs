@@ -36,6 +36,8 @@ mod linked {
     struct Input {
         world: World,
         words: Vec<u16>,
+        /// A card that names five identifiers, and a recording whose every fourth message queries them.
+        scanned: (World, Vec<u16>),
         /// Messages to write, so that as many bytes come out as there are words.
         asked: Vec<(u8, u32, u8, u8, i32, u32)>,
         /// Replies to read, of as many bytes together.
@@ -50,7 +52,7 @@ mod linked {
         fn new(length: usize, rows: usize) -> Input {
             let mut rng = Rng::new(SEED ^ (length as u64) << 8 ^ rows as u64);
             let world = World::with_rows(&mut rng, rows, rows);
-            let words = gen::recording(&mut rng, &world, length, gen::REALISTIC);
+            let words = without_scans(gen::recording(&mut rng, &world, length, gen::REALISTIC));
             let codes = gen::identifiers();
             let mut bytes = 0;
             let mut asked = Vec::new();
@@ -69,9 +71,25 @@ mod linked {
                 replies.push(reply);
             }
             let identifiers = (0..length / 10).map(|_| rng.pick(&codes)).collect();
-            let (out, normal) = (vec![0; length * 3 + 11], vec![0; length]);
-            Input { world, words, asked, replies, identifiers, out, normal }
+            let (out, normal) = (vec![0; length * 7 + 33], vec![0; length]);
+            let scanned = scanned(&mut rng, length, rows);
+            Input { world, words, scanned, asked, replies, identifiers, out, normal }
         }
+    }
+
+    /// Every `]` becomes another identifier, so that the figures can be set beside those of a card without a scan.
+    fn without_scans(mut words: Vec<u16>) -> Vec<u16> {
+        let [scan, another] = [gen::SCAN, b'^'].map(|code| u16::from(gen::on_line(code)));
+        words.iter_mut().filter(|word| **word == scan).for_each(|word| *word = another);
+        words
+    }
+
+    fn scanned(rng: &mut Rng, length: usize, rows: usize) -> (World, Vec<u16>) {
+        let mut world = World::with_rows(rng, rows, rows);
+        world.scan(rng, 5);
+        assert_eq!(world.card[16], 5, "no row can be read");
+        let words = gen::scanning(rng, &world, length);
+        (world, words)
     }
 
     #[derive(Clone, Copy, PartialEq)]
@@ -83,21 +101,29 @@ mod linked {
     /// One measured call over the whole input. The result is compared between the sides.
     type Measured = fn(Side, &mut Input) -> u64;
 
-    fn run(side: Side, input: &mut Input) -> u64 {
-        let World { card, bench, maker, values, .. } = &input.world;
+    fn play(side: Side, world: &World, words: &[u16], out: &mut [u8]) -> u64 {
+        let World { card, bench, maker, values, .. } = world;
         let (mut card, mut values) = (card.clone(), values.clone());
         let mut counts = [0; 2];
         let call = if side == Side::Proved { abi::run } else { calls::run };
-        let result = call(&mut card, bench, maker, &mut values, &input.words, &mut input.out, &mut counts);
-        assert_eq!((result, counts[0]), (0, input.words.len() as u64));
+        let result = call(&mut card, bench, maker, &mut values, words, out, &mut counts);
+        assert_eq!((result, counts[0]), (0, words.len() as u64));
         counts[1]
+    }
+
+    fn run(side: Side, input: &mut Input) -> u64 {
+        play(side, &input.world, &input.words, &mut input.out)
+    }
+
+    fn scan(side: Side, input: &mut Input) -> u64 {
+        play(side, &input.scanned.0, &input.scanned.1, &mut input.out)
     }
 
     fn step(side: Side, input: &mut Input) -> u64 {
         let World { card, bench, maker, values, .. } = &input.world;
         let (mut card, mut values) = (card.clone(), values.clone());
         let call = if side == Side::Proved { abi::step } else { calls::step };
-        let mut out = [0; 11];
+        let mut out = [0; 33];
         let mut sum = 0;
         for &word in &input.words {
             sum += call(&mut card, bench, maker, &mut values, word, &mut out);
@@ -122,7 +148,7 @@ mod linked {
 
     fn read(side: Side, input: &mut Input) -> u64 {
         let call = if side == Side::Proved { abi::read } else { calls::read };
-        let mut answer = [0; 7];
+        let mut answer = [0; 15];
         let mut sum = 0u64;
         for reply in &input.replies {
             sum = sum.wrapping_add(call(reply, black_box(&mut answer)) as u64 + answer[5] as u64);
@@ -151,7 +177,7 @@ mod linked {
         sum as u64
     }
 
-    const CALLS: [(&str, Measured); 7] = [
+    const CALLS: [(&str, Measured); 8] = [
         ("run", run),
         ("normal form", normal_form),
         ("step", step),
@@ -159,6 +185,7 @@ mod linked {
         ("read", read),
         ("line", line),
         ("lookup", lookup),
+        ("scan", scan),
     ];
 
     fn median(mut times: Vec<f64>) -> f64 {
@@ -209,7 +236,7 @@ mod linked {
         for (name, call) in CALLS {
             for &length in lengths {
                 for rows in SHEETS {
-                    let with_sheets = matches!(name, "run" | "step" | "lookup");
+                    let with_sheets = matches!(name, "run" | "step" | "lookup" | "scan");
                     if !with_sheets && rows != SHEETS[0] {
                         continue;
                     }

@@ -1,12 +1,12 @@
-//! Everything that can be wrong with what is lent: card, offer, sheets, values and words.
+//! Everything that can be wrong with what is lent: card, offer, scan, sheets, values and words.
 
-use super::{identifiers, value, Rng, Row, World};
+use super::{identifiers, row, rows_of, value, Rng, Row, World, SCAN};
 
-/// Makes a card's row unsound before its offer and the sheets are looked at.
+/// Makes a card's row unsound before its offer, its scan and the sheets are looked at.
 pub fn break_card(rng: &mut Rng, card: &mut Vec<i32>) {
     let length = card[2] as usize;
     match rng.below(10) {
-        0 => card.truncate(rng.below(16)),
+        0 => card.truncate(rng.below(22)),
         1 => card.push(rng.wild()),
         2 => card[0] = rng.pick(&[0, 75, 77, 0xCC, 0xD2, 76 + 256, -76, i32::MIN, i32::MAX]),
         3 => card[1] = rng.pick(&[0, 100, -1, -7, 256, 263, 355, 65_543, i32::MIN, i32::MAX]),
@@ -73,7 +73,42 @@ pub fn break_offer(rng: &mut Rng, world: &mut World) {
             no_offer(rng, row[0], value)
         }
     };
-    world.card[13..].copy_from_slice(&wrong);
+    world.card[13..16].copy_from_slice(&wrong);
+}
+
+/// Gives the card a scan that isn't sound, or `]` a row, under sound sheets.
+pub fn break_scan(rng: &mut Rng, world: &mut World) {
+    match rng.below(8) {
+        0 => add_scan_row(rng, &mut world.bench),
+        1 => add_scan_row(rng, &mut world.maker),
+        2 | 3 => world.card[16] = rng.pick(&[1, 2, 3, 6, 7, 255, -1, -4, 256, 260, 261, i32::MIN, i32::MAX]),
+        kind => {
+            let absent = |code: &i32| world.rows.iter().all(|row| row[0] != *code);
+            let absent: Vec<i32> = (0..=255).filter(absent).collect();
+            let unreadable: Vec<Row> = world.rows.iter().copied().filter(|row| row[1] == 3).collect();
+            let named = rng.pick(&[4, 5]);
+            world.scan(rng, named);
+            let place = 17 + rng.below(named);
+            let cut = world.card[place].wrapping_add(256);
+            world.card[16] = named as i32;
+            world.card[place] = match kind {
+                4 | 5 if !unreadable.is_empty() => rng.pick(&unreadable)[0],
+                // No byte.
+                6 => rng.pick(&[-1, 256, 300, cut.max(256), i32::MIN, i32::MAX]),
+                _ => rng.pick(&absent),
+            };
+        }
+    }
+}
+
+/// Gives `]` a row in a sheet that has none, in place of another where 64 are there.
+pub fn add_scan_row(rng: &mut Rng, sheet: &mut Vec<i32>) {
+    if sheet.len() == 64 * 6 {
+        let at = 6 * rng.below(64);
+        sheet.drain(at..at + 6);
+    }
+    let at = 6 * rows_of(sheet).take_while(|row| row[0] < i32::from(SCAN)).count();
+    sheet.splice(at..at, row(rng, SCAN));
 }
 
 /// Makes a sheet unsound.

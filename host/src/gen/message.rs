@@ -1,6 +1,6 @@
 //! Characters as they travel, the messages sent to a card and the replies it spells.
 
-use super::{identifiers, value, Rng, Row, World};
+use super::{identifiers, value, Rng, Row, World, SCAN};
 
 /// A character as it travels.
 pub fn on_line(character: u8) -> u8 {
@@ -100,24 +100,68 @@ pub fn message(rng: &mut Rng, world: &World, text: &mut Vec<u8>) {
     text.push(b'*');
 }
 
-/// A reply as a card spells it, in plain characters.
-pub fn reply(rng: &mut Rng) -> Vec<u8> {
+/// Appends a message on `]` with its `*`, most often the query.
+pub fn scan_message(rng: &mut Rng, world: &World, text: &mut Vec<u8>) {
+    head(rng, world, text);
+    text.push(SCAN);
+    match rng.below(10) {
+        0 => text.push(b'+'),
+        1 => text.push(b'-'),
+        2 => text.push(b'I'),
+        3 => {
+            text.push(b'#');
+            digits(rng, None, text);
+        }
+        _ => text.push(b'?'),
+    }
+    text.push(b'*');
+}
+
+fn reply_head(rng: &mut Rng) -> Vec<u8> {
     let mut text = vec![rng.pick(b"LR")];
     let address = if rng.percent(50) { rng.within(1, 9) } else { rng.within(1, 99) };
     text.extend_from_slice(address.to_string().as_bytes());
-    if rng.percent(10) {
-        text.extend_from_slice(b"?A*");
-        return text;
-    }
-    text.push(rng.pick(&identifiers()));
+    text
+}
+
+/// Five digits as a card spells them.
+fn reply_digits(rng: &mut Rng) -> String {
     let number = match rng.below(4) {
         0 => rng.within(-3, 3),
         1 => rng.pick(&[-9_999, 9_999, 0]),
         _ => rng.within(-9_999, 9_999),
     };
     let code = rng.within(0, 3) + if number < 0 { 5 } else { 0 };
-    text.extend_from_slice(format!("{:04}{code}", number.abs()).as_bytes());
-    text.push(rng.pick(b"AIN"));
+    format!("{:04}{code}", number.abs())
+}
+
+/// A reply as a card spells it, in plain characters; not that of a scan.
+pub fn reply(rng: &mut Rng) -> Vec<u8> {
+    let mut text = reply_head(rng);
+    if rng.percent(10) {
+        text.extend_from_slice(b"?A*");
+        return text;
+    }
+    let identifier = rng.pick(&identifiers());
+    let digits = reply_digits(rng);
+    let outcome = rng.pick(b"AIN");
+    text.push(identifier);
+    if identifier == SCAN {
+        text.extend_from_slice(b"00000N");
+    } else {
+        text.extend_from_slice(digits.as_bytes());
+        text.push(outcome);
+    }
     text.push(b'*');
+    text
+}
+
+/// A scan's reply as a card spells it, in plain characters.
+pub fn scan_reply(rng: &mut Rng) -> Vec<u8> {
+    let mut text = reply_head(rng);
+    let named = rng.pick(&[4, 5]);
+    text.extend_from_slice(format!("]{}", 5 * named).as_bytes());
+    (0..named).for_each(|_| text.extend_from_slice(reply_digits(rng).as_bytes()));
+    text.extend_from_slice(b"A*");
     text
 }

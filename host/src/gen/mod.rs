@@ -7,8 +7,8 @@ mod recording;
 mod rng;
 mod world;
 
-pub use broken::{break_card, break_offer, break_sheet, break_values, wrong_word};
-pub use message::{message, on_line, reply, words_of};
-pub use recording::{babble, edit, recording, Mixture, REALISTIC, ROUGH};
+pub use broken::{add_scan_row, break_card, break_offer, break_scan, break_sheet, break_values, wrong_word};
+pub use message::{message, on_line, reply, scan_message, scan_reply, words_of};
+pub use recording::{babble, edit, recording, scanning, Mixture, REALISTIC, ROUGH};
 pub use rng::Rng;
-pub use world::{identifiers, row, rows_of, sheet, value, Row, World};
+pub use world::{identifiers, row, rows_of, sheet, value, Row, World, SCAN};

@@ -1,9 +1,12 @@
 //! Sound rows, sheets and values, and a whole card with all that is lent beside it.
 
 use super::message::other;
-use super::{message, Rng};
+use super::{message, scan_message, Rng};
 
 pub type Row = [i32; 6];
+
+/// The scan's identifier. A sheet can have a row for it, but not beside a sound card.
+pub const SCAN: u8 = b']';
 
 /// The 82 identifiers that a sheet can have.
 pub fn identifiers() -> Vec<u8> {
@@ -63,6 +66,29 @@ pub fn value(rng: &mut Rng, row: &Row) -> i32 {
     }
 }
 
+/// Gives `]`'s row, where there is one, to an identifier that the sheet lacks.
+fn free_scan(sheet: &mut Vec<i32>) {
+    let mut rows: Vec<Row> = rows_of(sheet).collect();
+    let Some(at) = rows.iter().position(|row| row[0] == i32::from(SCAN)) else {
+        return;
+    };
+    let lacks = |&code: &u8| rows.iter().all(|row| row[0] != i32::from(code));
+    rows[at][0] = i32::from(identifiers().into_iter().find(lacks).expect("64 rows leave 18"));
+    rows.sort_unstable();
+    *sheet = rows.concat();
+}
+
+/// The rows that hold: the bench sheet's and those of the maker's that they leave.
+fn holding(bench: &[i32], maker: &[i32]) -> Vec<Row> {
+    let mut rows: Vec<Row> = rows_of(bench).collect();
+    for row in rows_of(maker) {
+        if rows.iter().all(|other| other[0] != row[0]) {
+            rows.push(row);
+        }
+    }
+    rows
+}
+
 /// A sound card, sheets and values.
 #[derive(Clone, Debug)]
 pub struct World {
@@ -79,20 +105,17 @@ pub fn rows_of(sheet: &[i32]) -> impl Iterator<Item = Row> + '_ {
 }
 
 impl World {
-    /// With so many rows in the sheets, no message open and no offer.
+    /// With so many rows in the sheets, no message open, no offer and no scan.
     pub fn with_rows(rng: &mut Rng, bench: usize, maker: usize) -> World {
-        let (bench, maker) = (sheet(rng, bench), sheet(rng, maker));
-        let mut rows: Vec<Row> = rows_of(&bench).collect();
-        for row in rows_of(&maker) {
-            if rows.iter().all(|other| other[0] != row[0]) {
-                rows.push(row);
-            }
-        }
+        let (mut bench, mut maker) = (sheet(rng, bench), sheet(rng, maker));
+        free_scan(&mut bench);
+        free_scan(&mut maker);
+        let rows = holding(&bench, &maker);
         let mut values: Vec<i32> = (0..128).map(|_| rng.wild()).collect();
         for row in &rows {
             values[row[0] as usize] = value(rng, row);
         }
-        let mut card = vec![0; 16];
+        let mut card = vec![0; 22];
         card[0] = i32::from(rng.pick(b"LR"));
         card[1] = if rng.percent(50) { rng.within(1, 9) } else { rng.within(1, 99) };
         World { card, bench, maker, values, rows }
@@ -101,6 +124,8 @@ impl World {
     pub fn new(rng: &mut Rng) -> World {
         let (bench, maker) = (some_rows(rng), some_rows(rng));
         let mut world = World::with_rows(rng, bench, maker);
+        let named = rng.pick(&[0, 4, 5, 5]);
+        world.scan(rng, named);
         if rng.percent(40) {
             world.offer(rng);
         }
@@ -110,19 +135,39 @@ impl World {
         world
     }
 
+    /// Names so many identifiers that can be read, or none where there is no such row; anything behind.
+    pub fn scan(&mut self, rng: &mut Rng, named: usize) {
+        let rows: Vec<Row> = self.rows.iter().copied().filter(|row| row[1] != 3).collect();
+        let named = if rows.is_empty() { 0 } else { named };
+        self.card[16] = named as i32;
+        for place in 0..5 {
+            self.card[17 + place] = match rng.below(5) {
+                0 if place < named && place > 0 => self.card[17],
+                _ if place < named => rng.pick(&rows)[0],
+                0 => 0,
+                1 => i32::from(rng.pick(&identifiers())),
+                _ => rng.wild(),
+            };
+        }
+    }
+
     /// Makes a sound offer, if a row can be written.
     pub fn offer(&mut self, rng: &mut Rng) {
         let rows: Vec<Row> = self.rows.iter().copied().filter(|row| row[1] != 1).collect();
         if !rows.is_empty() {
             let row = rng.pick(&rows);
-            self.card[13..].copy_from_slice(&[1, row[0], value(rng, &row)]);
+            self.card[13..16].copy_from_slice(&[1, row[0], value(rng, &row)]);
         }
     }
 
     /// Opens a message: most often one that the next `*` closes well.
     pub fn open(&mut self, rng: &mut Rng) {
         let mut text = Vec::new();
-        message(rng, self, &mut text);
+        if rng.percent(15) {
+            scan_message(rng, self, &mut text);
+        } else {
+            message(rng, self, &mut text);
+        }
         if text[0] != b'L' && text[0] != b'R' {
             text[0] = b'L';
         }

@@ -1,16 +1,19 @@
 //! The calls over numbers and slices of numbers, as the C boundary has them: the yardstick that
 //! stands beside each wrapper of `abi`, with the same parameters and results.
 
+use std::ops::Range;
+
 use super::card::{self, Card, Offer};
 use super::hearing::{Open, MOST};
 use super::message::{self, Data, Kind, Message};
+use super::scan::{Scan, MOST_NAMED};
 use super::{listing, normal, reply, sheet, Refusal};
 
 /// Letter, address, count of open characters, ten characters, offer or none, its identifier, its
-/// value.
-pub const CARD: usize = 16;
-/// Letter, address, identifier, outcome, number or none, number, decimals.
-pub const ANSWER: usize = 7;
+/// value, count of the scan's identifiers, five identifiers.
+pub const CARD: usize = 22;
+/// Letter, address, identifier, outcome, count of numbers, five times a number and its decimals.
+pub const ANSWER: usize = 15;
 
 /// What the boundary's reader gives back when it isn't refused: the count of numbers written.
 pub const READ: i64 = ANSWER as i64;
@@ -19,8 +22,12 @@ pub const READ: i64 = ANSWER as i64;
 /// the offers.
 const NO_OFFER: Offer = Offer { identifier: 0, value: 0 };
 
-/// Where the numbers begin that a word can change: the open message and the offer.
-const CHANGED: usize = 2;
+/// What a scan's count stands for that is no byte, and an identifier that is none: neither is sound.
+const NO_COUNT: u8 = 255;
+const NO_IDENTIFIER: u8 = 0;
+
+/// The numbers that a word can change: the open message and the offer.
+const CHANGED: Range<usize> = 2..16;
 
 const fn refused(refusal: Refusal) -> i64 {
     -(refusal.number() as i64)
@@ -30,8 +37,8 @@ fn counted(result: Result<usize, Refusal>) -> i64 {
     result.map_or_else(refused, |count| count as i64)
 }
 
-/// The card that a row of sixteen is. `None`, where its length or its numbers 0 to 12 are no card's, is
-/// number 1 before the sheets; whether the card is sound is asked later, and of its offer after the sheets.
+/// The card that a row of 22 is. `None`, where its length or its numbers 0 to 12 are no card's, is number 1
+/// before the sheets; whether the card is sound is asked later, and of its offer and scan after the sheets.
 pub fn card_of(row: &[i32]) -> Option<Card> {
     let row: &[i32; CARD] = row.try_into().ok()?;
     let code = |number: i32| u8::try_from(number).ok();
@@ -39,20 +46,25 @@ pub fn card_of(row: &[i32]) -> Option<Card> {
     for (character, &number) in characters.iter_mut().zip(&row[3..13]) {
         *character = code(number)?;
     }
-    let offer = match row[13..] {
+    let offer = match row[13..16] {
         [0, 0, 0] => None,
         [1, identifier @ 0..=255, value] => Some(Offer { identifier: identifier as u8, value }),
         _ => Some(NO_OFFER),
     };
+    let mut identifiers = [NO_IDENTIFIER; MOST_NAMED];
+    for (identifier, &number) in identifiers.iter_mut().zip(&row[17..]) {
+        *identifier = code(number).unwrap_or(NO_IDENTIFIER);
+    }
     Some(Card {
         letter: code(row[0])?,
         address: code(row[1])?,
         open: Open { length: code(row[2])?, characters },
         offer,
+        scan: Scan { count: code(row[16]).unwrap_or(NO_COUNT), identifiers },
     })
 }
 
-/// The row of sixteen that a card is.
+/// The row of 22 that a card is.
 pub fn row_of(card: &Card) -> [i32; CARD] {
     let mut row = [0; CARD];
     row[0] = i32::from(card.letter);
@@ -62,14 +74,18 @@ pub fn row_of(card: &Card) -> [i32; CARD] {
         *number = i32::from(character);
     }
     if let Some(offer) = card.offer {
-        row[13..].copy_from_slice(&[1, i32::from(offer.identifier), offer.value]);
+        row[13..16].copy_from_slice(&[1, i32::from(offer.identifier), offer.value]);
+    }
+    row[16] = i32::from(card.scan.count);
+    for (number, &identifier) in row[17..].iter_mut().zip(&card.scan.identifiers) {
+        *number = i32::from(identifier);
     }
     row
 }
 
 /// A served call writes back what a word can change and nothing else.
 fn put_back(row: &mut [i32], card: &Card) {
-    row[CHANGED..CARD].copy_from_slice(&row_of(card)[CHANGED..]);
+    row[CHANGED].copy_from_slice(&row_of(card)[CHANGED]);
 }
 
 /// Minus the number, or the count of bytes; 0 is silence.
@@ -165,7 +181,7 @@ pub fn write(
     )
 }
 
-/// Minus the number, or [`READ`] with the answer's seven numbers written. An answer shorter than
+/// Minus the number, or [`READ`] with the answer's fifteen numbers written. An answer shorter than
 /// that is number 5, after 6.
 pub fn read(bytes: &[u8], answer: &mut [i32]) -> i64 {
     let read = match reply::read(bytes) {
@@ -175,19 +191,17 @@ pub fn read(bytes: &[u8], answer: &mut [i32]) -> i64 {
     let Some(answer) = answer.first_chunk_mut::<ANSWER>() else {
         return refused(Refusal::Room);
     };
-    let (given, number, decimals) = match read.data {
-        Some(data) => (1, data.number, i32::from(data.decimals)),
-        None => (0, 0, 0),
-    };
-    *answer = [
+    let (head, numbers) = answer.split_at_mut(5);
+    head.copy_from_slice(&[
         i32::from(read.letter),
         i32::from(read.address),
         i32::from(read.identifier),
         i32::from(read.outcome),
-        given,
-        number,
-        decimals,
-    ];
+        read.count as i32,
+    ]);
+    for (pair, data) in numbers.as_chunks_mut().0.iter_mut().zip(&read.numbers) {
+        *pair = [data.number, i32::from(data.decimals)];
+    }
     READ
 }
 

@@ -3,11 +3,12 @@
 use super::hearing::Open;
 use super::message::{is_letter, Data, Kind, Message, Spelled};
 use super::parity::{all_words, SILENCE};
+use super::scan::{Scan, SCAN};
 use super::sheet::{Row, Rows, READ_AND_WRITE, VALUES};
 use super::Refusal;
 
-/// No reply is longer.
-pub const LONGEST_REPLY: usize = 11;
+/// No reply is longer: `L`, two digits, `]`, the count of digits, five values, `A*`.
+pub const LONGEST_REPLY: usize = 33;
 
 #[derive(Clone, Copy, Debug, PartialEq, Eq)]
 pub struct Offer {
@@ -22,6 +23,7 @@ pub struct Card {
     pub address: u8,
     pub open: Open,
     pub offer: Option<Offer>,
+    pub scan: Scan,
 }
 
 /// Words taken and bytes written.
@@ -39,14 +41,20 @@ struct Effect {
     reply: Option<Reply>,
 }
 
-struct Reply {
-    outcome: u8,
-    data: Option<Data>,
+enum Reply {
+    /// `A` with no data.
+    Status,
+    Value {
+        outcome: u8,
+        data: Data,
+    },
+    /// The values that the card's scan names.
+    Scan,
 }
 
 impl Card {
-    /// Letter, address and open message; the offer is judged apart, after the sheets.
-    pub fn is_sound_but_for_offer(&self) -> bool {
+    /// Letter, address and open message; offer and scan are judged apart, after the sheets.
+    pub fn is_sound_without_sheets(&self) -> bool {
         is_letter(self.letter) && matches!(self.address, 1..=99) && self.open.is_sound()
     }
 
@@ -57,7 +65,7 @@ impl Card {
         })
     }
 
-    /// Numbers 1, 2, 1 for the offer, and 3.
+    /// Numbers 1, 2, 1 for offer and scan, and 3.
     #[inline]
     fn admit<'s, 'v>(
         &self,
@@ -65,11 +73,14 @@ impl Card {
         maker: &'s [i32],
         values: &'v mut [i32],
     ) -> Result<(Rows<'s>, &'v mut [i32; VALUES]), Refusal> {
-        if !self.is_sound_but_for_offer() {
+        if !self.is_sound_without_sheets() {
             return Err(Refusal::Card);
         }
         let rows = Rows::of(bench, maker).ok_or(Refusal::Sheet)?;
         if !self.has_sound_offer(&rows) {
+            return Err(Refusal::Card);
+        }
+        if !self.scan.is_sound(&rows) {
             return Err(Refusal::Card);
         }
         let values = rows.admit(values).ok_or(Refusal::Values)?;
@@ -84,15 +95,16 @@ impl Card {
             return silence;
         }
         let identifier = message.identifier;
+        if identifier == SCAN {
+            return Effect { reply: self.reply_to_scan(message.kind), ..silence };
+        }
         let row = rows.get(identifier);
         let stored = values[usize::from(identifier & 0x7F)];
         let replied = |outcome, number, row: &Row| {
-            Some(Reply { outcome, data: Some(Data { number, decimals: row.decimals }) })
+            Some(Reply::Value { outcome, data: Data { number, decimals: row.decimals } })
         };
         let accepted = match message.kind {
-            Kind::Status => {
-                return Effect { reply: Some(Reply { outcome: b'A', data: None }), ..silence };
-            }
+            Kind::Status => return Effect { reply: Some(Reply::Status), ..silence },
             Kind::Query => row
                 .filter(Row::can_be_read)
                 .map(|row| Effect { reply: replied(b'A', stored, &row), ..silence }),
@@ -129,10 +141,19 @@ impl Card {
         accepted.unwrap_or_else(|| {
             let data = match row {
                 Some(row) if row.can_be_read() => Data { number: stored, decimals: row.decimals },
-                _ => Data { number: 0, decimals: 0 },
+                _ => Data::ZERO,
             };
-            Effect { value: None, offer: None, reply: Some(Reply { outcome: b'N', data: Some(data) }) }
+            Effect { value: None, offer: None, reply: Some(Reply::Value { outcome: b'N', data }) }
         })
+    }
+
+    /// What a message on `]` for this card draws.
+    fn reply_to_scan(&self, kind: Kind) -> Option<Reply> {
+        match kind {
+            Kind::Query if !self.scan.is_none() => Some(Reply::Scan),
+            Kind::Store => None,
+            _ => Some(Reply::Value { outcome: b'N', data: Data::ZERO }),
+        }
     }
 
     /// Closes the open message: the `*` is taken. Gives the bytes written, or `None`, with nothing
@@ -145,7 +166,12 @@ impl Card {
         };
         let effect = self.effect(&message, rows, values);
         let written = match &effect.reply {
-            Some(reply) => spell_reply(self, message.identifier, reply, out)?,
+            Some(reply) => {
+                let spelled = spell_reply(self, message.identifier, reply, rows, values);
+                let bytes = spelled.bytes();
+                out.get_mut(..bytes.len())?.copy_from_slice(bytes);
+                bytes.len()
+            }
             None => 0,
         };
         if let Some(value) = effect.value {
@@ -157,18 +183,29 @@ impl Card {
     }
 }
 
-/// Gives the length, or `None`, with nothing written, where there is no room.
 #[inline]
-fn spell_reply(card: &Card, identifier: u8, reply: &Reply, out: &mut [u8]) -> Option<usize> {
+fn spell_reply(
+    card: &Card,
+    identifier: u8,
+    reply: &Reply,
+    rows: &Rows,
+    values: &[i32; VALUES],
+) -> Spelled<LONGEST_REPLY> {
     let mut spelled = Spelled::head(card.letter, card.address, identifier);
-    if let Some(data) = reply.data {
-        spelled.put_data(data);
-    }
-    spelled.put(reply.outcome);
+    let outcome = match *reply {
+        Reply::Status => b'A',
+        Reply::Value { outcome, data } => {
+            spelled.put_data(data);
+            outcome
+        }
+        Reply::Scan => {
+            card.scan.put(&mut spelled, rows, values);
+            b'A'
+        }
+    };
+    spelled.put(outcome);
     spelled.put(b'*');
-    let bytes = spelled.bytes();
-    out.get_mut(..bytes.len())?.copy_from_slice(bytes);
-    Some(bytes.len())
+    spelled
 }
 
 /// Takes one word. Gives the bytes replied, 0 being silence. Refused with 1, 2, 1, 3, 4, 5.

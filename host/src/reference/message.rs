@@ -10,6 +10,11 @@ pub struct Data {
     pub decimals: u8,
 }
 
+impl Data {
+    /// `00000`.
+    pub const ZERO: Data = Data { number: 0, decimals: 0 };
+}
+
 /// The greatest number that four digits hold.
 pub const GREATEST: i32 = 9_999;
 
@@ -150,7 +155,7 @@ impl Message {
 
     /// The bytes of a heard message's normal form.
     #[inline]
-    pub(super) fn spell(&self) -> Spelled {
+    pub(super) fn spell(&self) -> Spelled<LONGEST> {
         let mut spelled = Spelled::head(self.letter, self.address, self.identifier);
         spelled.put(self.kind.sign());
         if let Kind::Set(data) = self.kind {
@@ -162,16 +167,16 @@ impl Message {
 }
 
 /// The bytes of a message or a reply, with parity.
-pub(super) struct Spelled {
-    bytes: [u8; LONGEST],
+pub(super) struct Spelled<const ROOM: usize> {
+    bytes: [u8; ROOM],
     length: usize,
 }
 
-impl Spelled {
+impl<const ROOM: usize> Spelled<ROOM> {
     /// Letter, address without a leading zero, identifier.
     #[inline]
-    pub(super) fn head(letter: u8, address: u8, identifier: u8) -> Spelled {
-        let mut spelled = Spelled { bytes: [0; LONGEST], length: 0 };
+    pub(super) fn head(letter: u8, address: u8, identifier: u8) -> Spelled<ROOM> {
+        let mut spelled = Spelled { bytes: [0; ROOM], length: 0 };
         spelled.put(letter);
         if address >= 10 {
             spelled.put(b'0' + address / 10);

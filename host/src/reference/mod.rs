@@ -1,4 +1,4 @@
-//! Document 01 in plain Rust.
+//! Document 01 in plain Rust, and of document 02 request 1.
 //!
 //! The typed calls are [`card::step`], [`card::run`], [`normal::normal_form`], [`message::write`],
 //! [`reply::read`], [`listing::line`] and [`sheet::lookup`]; [`calls`] has the same over numbers and
@@ -12,6 +12,7 @@ pub mod message;
 pub mod normal;
 pub mod parity;
 pub mod reply;
+pub mod scan;
 pub mod sheet;
 #[cfg(test)]
 mod tests;

@@ -1,7 +1,9 @@
 //! The reader of replies.
 
+use super::card::LONGEST_REPLY;
 use super::message::{is_identifier, is_letter, parse_data, Data};
 use super::parity::is_good;
+use super::scan::{digits_of, is_full, MOST_NAMED, SCAN};
 use super::Refusal;
 
 /// What a reply says.
@@ -12,7 +14,10 @@ pub struct Answer {
     pub identifier: u8,
     /// `A`, `I` or `N`.
     pub outcome: u8,
-    pub data: Option<Data>,
+    /// How many numbers: none, one, or a scan's four or five.
+    pub count: usize,
+    /// The numbers in order, [`Data::ZERO`] behind the count.
+    pub numbers: [Data; MOST_NAMED],
 }
 
 /// Reads one whole reply, spelled exactly as a card spells it. Refused with 6.
@@ -22,7 +27,7 @@ pub fn read(bytes: &[u8]) -> Result<Answer, Refusal> {
 }
 
 fn parse_reply(bytes: &[u8]) -> Option<Answer> {
-    let mut characters = [0; super::card::LONGEST_REPLY];
+    let mut characters = [0; LONGEST_REPLY];
     let characters = characters.get_mut(..bytes.len())?;
     for (character, &byte) in characters.iter_mut().zip(bytes) {
         if !is_good(byte) {
@@ -40,19 +45,51 @@ fn parse_reply(bytes: &[u8]) -> Option<Answer> {
     if !is_letter(letter) {
         return None;
     }
-    match *rest {
-        [b'?', b'A', b'*'] => Some(Answer { letter, address, identifier: b'?', outcome: b'A', data: None }),
-        [identifier, ref digits @ .., outcome @ (b'A' | b'I' | b'N'), b'*']
-            if is_identifier(identifier) && identifier != b'?' =>
-        {
-            let digits: &[u8; 5] = digits.try_into().ok()?;
-            let data = parse_data(digits)?;
-            // Minus zero is never spelled.
-            if data.number == 0 && digits[4] >= b'5' {
-                return None;
-            }
-            Some(Answer { letter, address, identifier, outcome, data: Some(data) })
+    let (identifier, outcome, count, numbers) = match *rest {
+        [b'?', b'A', b'*'] => (b'?', b'A', 0, NO_NUMBERS),
+        [SCAN, ref digits @ .., outcome @ (b'A' | b'N'), b'*'] => {
+            let (count, numbers) = parse_scan(digits, outcome)?;
+            (SCAN, outcome, count, numbers)
         }
-        _ => None,
+        [identifier, ref digits @ .., outcome @ (b'A' | b'I' | b'N'), b'*']
+            if is_identifier(identifier) && identifier != b'?' && identifier != SCAN =>
+        {
+            let mut numbers = NO_NUMBERS;
+            numbers[0] = parse_number(digits.try_into().ok()?)?;
+            (identifier, outcome, 1, numbers)
+        }
+        _ => return None,
+    };
+    Some(Answer { letter, address, identifier, outcome, count, numbers })
+}
+
+const NO_NUMBERS: [Data; MOST_NAMED] = [Data::ZERO; MOST_NAMED];
+
+/// The numbers of a reply on `]`: `N` with `00000`, or `A` with the count of digits and four or five
+/// values.
+fn parse_scan(digits: &[u8], outcome: u8) -> Option<(usize, [Data; MOST_NAMED])> {
+    let mut numbers = NO_NUMBERS;
+    if outcome == b'N' {
+        return (digits == b"00000").then_some((1, numbers));
     }
+    let (said, digits) = digits.split_first_chunk::<2>()?;
+    let (groups, rest) = digits.as_chunks::<5>();
+    if !rest.is_empty() || !is_full(groups.len()) || *said != digits_of(groups.len()) {
+        return None;
+    }
+    for (number, group) in numbers.iter_mut().zip(groups) {
+        *number = parse_number(group)?;
+    }
+    Some((groups.len(), numbers))
+}
+
+/// Five digits as a card spells them.
+#[inline]
+fn parse_number(digits: &[u8; 5]) -> Option<Data> {
+    let data = parse_data(digits)?;
+    // Minus zero is never spelled.
+    if data.number == 0 && digits[4] >= b'5' {
+        return None;
+    }
+    Some(data)
 }

@@ -10,7 +10,7 @@
 //! KAV_CASES=10 ...                                                # ten times as many random cases
 //! KAV_PART=100 ...                                                # the first hundredth of each group
 //! KAV_TRACE=1 ...          # one thread; target/last-case.txt has the case before a crash
-//! KAV_REPLAY='read bytes=204,55 room=7' cargo test --release --test differential
+//! KAV_REPLAY='read bytes=204,55 room=15' cargo test --release --test differential
 //! KAV_REPLAY=@file ...                                            # a line kept in a file
 //! ```
 

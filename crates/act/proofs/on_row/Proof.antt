@@ -1,20 +1,20 @@
--- `act::act` meets its contract: the test is the definition's. Assumes nothing.
+-- `act::on_row` meets its contract: the test is the definition's, and the entry and the value are those of the identifier. Assumes nothing.
 use mathlib.Core.Path.{sym, ap₂, _∙_}
 use borrow.Author.Needs.{needs}
 use borrow.Author.Tests.{not-true, not-false}
 use lib.IntN.{ℤ}
 use Rattle.number.proofs.Signed.{rd-ok}
 use Rattle.sheet.specs.declared.Entry.{Entry}
-use Rattle.act.specs.Act.{serve, respond}
-use Rattle.act.proofs.act.Statement.{statement}
-use Rattle.act.proofs.act.Tie as tie
+use Rattle.act.specs.Act.{serve, addressed}
+use Rattle.act.proofs.on_row.Statement.{statement}
+use Rattle.act.proofs.on_row.Tie as tie
 
 returns : tie.Need-returns
-unfolding respond
+unfolding addressed
 returns c = c .silent .ensures ∙ sym (rw (sym (c .before .before .is-for .ensures) ∙ not-true _ (c .before .if1 .taken)))
 
 returns-2 : tie.Need-returns-2
-unfolding respond
+unfolding addressed
 returns-2 c =
     let v = c .before in
     let t = v .before .before in
@@ -23,6 +23,6 @@ returns-2 c =
     ∙ ap₂ (λ (e : Entry) (z : ℤ). serve (s .args .message) e (s .args .offer) z (s .args .message .body)) (v .before .find-at .ensures) (rd-ok (v .value-at .result) (v .value-at .ok) ∙ v .value-at .ensures)
     ∙ sym (rw (sym (t .before .is-for .ensures) ∙ not-false _ (t .if1 .left)))
 
-pub act-spec : {M : Type 1} → statement M
-act-spec = tie.close (tie.spec
+pub on-row-spec : {M : Type 1} → statement M
+on-row-spec = tie.close (tie.spec
     (λ c κs. search needs) (λ c κs. search needs) returns (λ c κs. search needs) (λ c κs. search needs) (λ c κs. search needs) returns-2)

@@ -9,7 +9,7 @@ use Rattle.row.proofs.byte_at.Tie as tie
 returns : tie.Need-returns
 returns c =
     let n = c .before .number-at in
-    c .byte-of .ensures ∙ ap byteOf (rd-ok (n .result) (n .ok) ∙ n .ensures)
+    c .byte-or .ensures ∙ ap byteOf (rd-ok (n .result) (n .ok) ∙ n .ensures)
 
 pub byte-at-spec : {M : Type 1} → statement M
 byte-at-spec = tie.close (tie.spec (λ c κs. search needs) (λ c κs. search needs) returns)

@@ -34,7 +34,7 @@ returns-2 c =
     let e = b .before .before in
     let s = e .before .before .before .before in
     let a = s .args in
-    ap₂ Held (c .byte-of .ensures ∙ ap byteOf (rd-is (s .fits .identifier))) (rd-is (s .fits .value))
+    ap₂ Held (c .byte-or .ensures ∙ ap byteOf (rd-is (s .fits .identifier))) (rd-is (s .fits .value))
     ∙ sym (offer-marked (a .mark) (a .identifier) (a .value) (none (e .before) ∙ e .if1 .left) (marked b ∙ c .before .if2 .taken))
 
 returns-3 : tie.Need-returns-3

@@ -3,6 +3,7 @@
 use super::{answers, from_afresh, text, values, words, BENCH, CARD};
 use crate::reference::calls::{card_of, row_of};
 use crate::reference::card::{run, Card, Offer, Ran};
+use crate::reference::scan::Scan;
 use crate::reference::Refusal;
 
 #[test]
@@ -129,10 +130,12 @@ fn two_digit_addresses() {
 
 #[test]
 fn card_rows() {
-    let mut card = Card { offer: Some(Offer { identifier: b'm', value: -5 }), ..CARD };
+    let scan = Scan { count: 4, identifiers: *b"MMJm~" };
+    let mut card = Card { offer: Some(Offer { identifier: b'm', value: -5 }), scan, ..CARD };
     card.open.to_close(&words("R7m#00231"));
     let row = row_of(&card);
-    assert_eq!(row, [76, 7, 9, 82, 55, 109, 35, 48, 48, 50, 51, 49, 0, 1, 109, -5]);
+    assert_eq!(row[..16], [76, 7, 9, 82, 55, 109, 35, 48, 48, 50, 51, 49, 0, 1, 109, -5]);
+    assert_eq!(row[16..], [4, 77, 77, 74, 109, 126]);
     assert_eq!(card_of(&row), Some(card));
     assert_eq!(card_of(&row_of(&CARD)), Some(CARD));
 }

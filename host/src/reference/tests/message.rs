@@ -92,19 +92,30 @@ fn the_writer() {
     assert_eq!(call(b'L', 7, b'?', b'?', i32::MAX, 256, 5), 5);
 }
 
+fn answer(letter: u8, address: u8, identifier: u8, outcome: u8, data: &[(i32, u8)]) -> Answer {
+    let mut numbers = [Data::ZERO; 5];
+    for (number, &(units, decimals)) in numbers.iter_mut().zip(data) {
+        *number = Data { number: units, decimals };
+    }
+    Answer { letter, address, identifier, outcome, count: data.len(), numbers }
+}
+
 #[test]
 fn the_reader() {
-    let data = |number, decimals| Some(Data { number, decimals });
+    let five = &[(-9999, 3), (231, 1), (0, 0), (0, 3), (-15, 1)];
+    let four = &[(1, 0), (2, 2), (9999, 3), (-1, 3)];
     for (spelled, answer) in [
-        ("L7?A*", (b'L', 7, b'?', b'A', None)),
-        ("R70M02311A*", (b'R', 70, b'M', b'A', data(231, 1))),
-        ("L7J00156I*", (b'L', 7, b'J', b'I', data(-15, 1))),
-        ("L7Z00000N*", (b'L', 7, b'Z', b'N', data(0, 0))),
-        ("L7Z00003N*", (b'L', 7, b'Z', b'N', data(0, 3))),
-        ("L99#99998A*", (b'L', 99, b'#', b'A', data(-9999, 3))),
+        ("L7?A*", answer(b'L', 7, b'?', b'A', &[])),
+        ("R70M02311A*", answer(b'R', 70, b'M', b'A', &[(231, 1)])),
+        ("L7J00156I*", answer(b'L', 7, b'J', b'I', &[(-15, 1)])),
+        ("L7Z00000N*", answer(b'L', 7, b'Z', b'N', &[(0, 0)])),
+        ("L7Z00003N*", answer(b'L', 7, b'Z', b'N', &[(0, 3)])),
+        ("L99#99998A*", answer(b'L', 99, b'#', b'A', &[(-9999, 3)])),
+        ("L7]00000N*", answer(b'L', 7, b']', b'N', &[(0, 0)])),
+        ("R99]25_99998_02311_00000_00003_00156_A*", answer(b'R', 99, b']', b'A', five)),
+        ("L7]20_00010_00022_99993_00018_A*", answer(b'L', 7, b']', b'A', four)),
+        ("L7]20_00000_00000_00000_00000_A*", answer(b'L', 7, b']', b'A', &[(0, 0); 4])),
     ] {
-        let (letter, address, identifier, outcome, data) = answer;
-        let answer = Answer { letter, address, identifier, outcome, data };
         assert_eq!(read(&line(spelled)), Ok(answer), "{spelled}");
         // Nothing before or behind, and every byte in good parity.
         let bytes = line(spelled);
@@ -148,14 +159,72 @@ fn the_reader() {
         "L7M0231 A*",
         "LL7?A*",
         "",
+        // `]`: five digits only as `00000N`.
+        "L7]02311A*",
+        "L7]00000A*",
+        "L7]00001N*",
+        "L7]00005N*",
+        "L7]00000I*",
+        "L7]A*",
+        "L7]N*",
+        "L7]25A*",
+        "L7]20000A*",
+        // A scan's mark and identifier.
+        "L7]25_99998_02311_00000_00003_00156_I*",
+        "L7]25_99998_02311_00000_00003_00156_N*",
+        "L7]25_00000_00000_00000_00000_00000_N*",
+        "L7]20_00010_00022_99993_00018_I*",
+        "L7M25_99998_02311_00000_00003_00156_A*",
+        "L7?25_99998_02311_00000_00003_00156_A*",
+        "L7M20_00010_00022_99993_00018_A*",
+        // The count of digits.
+        "L7]24_99998_02311_00000_00003_00156_A*",
+        "L7]26_99998_02311_00000_00003_00156_A*",
+        "L7]20_99998_02311_00000_00003_00156_A*",
+        "L7]25_00010_00022_99993_00018_A*",
+        "L7]05_99998_02311_00000_00003_00156_A*",
+        "L7]25_99998_02311_00000_00003_001560_A*",
+        "L7]25_99998_02311_00000_00003_0015_A*",
+        "L7]24_99998_02311_00000_00003_0015_A*",
+        "L7]15_00010_00022_99993_A*",
+        "L7]05_00010_A*",
+        "L7]00_A*",
+        "L7]99998_02311_00000_00003_00156_A*",
+        // Every value as a card spells it: no minus zero, codes 0 to 3 and 5 to 8.
+        "L7]25_00005_02311_00000_00003_00156_A*",
+        "L7]25_99998_02311_00006_00003_00156_A*",
+        "L7]25_99998_02311_00000_00003_00008_A*",
+        "L7]20_00010_00022_99993_00007_A*",
+        "L7]25_99994_02311_00000_00003_00156_A*",
+        "L7]25_99998_02311_00000_00003_00159_A*",
+        "L7]25_99998_02311_0 000_00003_00156_A*",
+        "L07]20_00010_00022_99993_00018_A*",
+        "L0]25_99998_02311_00000_00003_00156_A*",
+        "L100]20_00010_00022_99993_00018_A*",
     ] {
         assert_eq!(read(&line(spelled)), Err(Refusal::Reply), "{spelled}");
         assert_eq!(calls::read(&line(spelled), &mut []), -6, "6 before 5");
     }
-    let mut answer = [9; 9];
-    assert_eq!(calls::read(&line("L7J00156I*"), &mut answer), calls::READ);
-    assert_eq!(answer, [76, 7, 74, 73, 1, -15, 1, 9, 9]);
-    assert_eq!(calls::read(&line("L7?A*"), &mut answer), calls::READ);
-    assert_eq!(answer, [76, 7, 63, 65, 0, 0, 0, 9, 9]);
-    assert_eq!(calls::read(&line("L7?A*"), &mut [0; 6]), -5);
+    let mut numbers = [9; 17];
+    let mut read = |spelled| {
+        assert_eq!(calls::read(&line(spelled), &mut numbers), calls::READ);
+        assert_eq!(numbers[15..], [9, 9]);
+        numbers[..15].to_vec()
+    };
+    assert_eq!(read("L7J00156I*"), [76, 7, 74, 73, 1, -15, 1, 0, 0, 0, 0, 0, 0, 0, 0]);
+    let five = "L70]25_99998_02311_00000_00003_00156_A*";
+    assert_eq!(read(five), [76, 70, 93, 65, 5, -9999, 3, 231, 1, 0, 0, 0, 3, -15, 1]);
+    assert_eq!(
+        read("L7]20_00010_00022_99993_00018_A*"),
+        [76, 7, 93, 65, 4, 1, 0, 2, 2, 9999, 3, -1, 3, 0, 0]
+    );
+    assert_eq!(read("L7]00000N*"), [76, 7, 93, 78, 1, 0, 0, 0, 0, 0, 0, 0, 0, 0, 0]);
+    assert_eq!(read("L7?A*"), [76, 7, 63, 65, 0, 0, 0, 0, 0, 0, 0, 0, 0, 0, 0]);
+    for spelled in ["L7?A*", five] {
+        for room in [0, 7, 14] {
+            let mut short = vec![9; room];
+            assert_eq!(calls::read(&line(spelled), &mut short), -5);
+            assert_eq!(short, vec![9; room]);
+        }
+    }
 }

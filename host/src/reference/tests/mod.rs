@@ -7,12 +7,14 @@ mod hearing;
 mod listing;
 mod message;
 mod refusals;
+mod scan;
 mod sheet;
 
 use super::card::{run, step, Card};
 use super::hearing::{for_each_heard, Open};
 use super::message::Message;
 use super::parity::{is_good, on_line};
+use super::scan::Scan;
 
 const BENCH: [i32; 24] = [
     74, 2, 1, 5, -100, 100, // J
@@ -31,10 +33,15 @@ fn values() -> [i32; 128] {
     values
 }
 
-const CARD: Card = Card { letter: b'L', address: 7, open: Open::NONE, offer: None };
+const CARD: Card = Card { letter: b'L', address: 7, open: Open::NONE, offer: None, scan: Scan::NONE };
+
+/// A text without the `_` that parts its groups of digits.
+fn plain(text: &str) -> String {
+    text.replace('_', "")
+}
 
 fn line(text: &str) -> Vec<u8> {
-    text.bytes().map(on_line).collect()
+    plain(text).bytes().map(on_line).collect()
 }
 
 fn words(text: &str) -> Vec<u16> {
@@ -54,7 +61,7 @@ fn answers(card: &mut Card, values: &mut [i32; 128], sent: &[u16]) -> String {
     assert_eq!(ran.taken, sent.len());
     let mut bytes = Vec::new();
     for &word in sent {
-        let mut out = [0xEE; 13];
+        let mut out = [0xEE; 35];
         let count = step(&mut other, &BENCH, &[], &mut others, word, &mut out).unwrap();
         assert!(out[count..].iter().all(|&byte| byte == 0xEE));
         bytes.extend_from_slice(&out[..count]);

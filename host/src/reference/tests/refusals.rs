@@ -4,6 +4,7 @@ use super::{values, words, BENCH, CARD};
 use crate::reference::calls::{self, row_of};
 use crate::reference::card::{run, Card, Offer};
 use crate::reference::hearing::Open;
+use crate::reference::scan::Scan;
 use crate::reference::Refusal;
 
 /// Cards that are unsound whatever their offer and the sheets, by row.
@@ -15,7 +16,8 @@ fn wrong_cards() -> Vec<Vec<i32>> {
     };
     vec![
         vec![],
-        row(&[])[..15].to_vec(),
+        row(&[])[..16].to_vec(),
+        row(&[])[..21].to_vec(),
         [row(&[]), vec![0]].concat(),
         row(&[(0, 0xCC)]),
         row(&[(0, 77)]),
@@ -39,7 +41,7 @@ fn wrong_cards() -> Vec<Vec<i32>> {
     ]
 }
 
-/// The last three numbers of rows whose offer no Type 3 could leave: no offer at all, or an unsound one.
+/// Numbers 13 to 15 of rows whose offer no Type 3 could leave: no offer at all, or an unsound one.
 const WRONG_OFFERS: [[i32; 3]; 12] = [
     [1, 109, 1],
     [1, 0, 0],
@@ -53,6 +55,22 @@ const WRONG_OFFERS: [[i32; 3]; 12] = [
     [0, 109, 0],
     [0, 0, 1],
     [0, 300, 20],
+];
+
+/// Numbers 16 to 21 of rows whose scan isn't sound: the count, or an identifier that can't be read.
+const WRONG_SCANS: [[i32; 6]; 12] = [
+    [1, 77, 77, 77, 77, 77],
+    [2, 77, 77, 77, 77, 77],
+    [3, 77, 77, 77, 77, 77],
+    [6, 77, 77, 77, 77, 77],
+    [255, 77, 77, 77, 77, 77],
+    [-1, 77, 77, 77, 77, 77],
+    [260, 77, 77, 77, 77, 77],
+    [4, 77, 77, 77, 90, 77],
+    [5, 77, 77, 77, 77, 97],
+    [4, 93, 77, 77, 77, 77],
+    [5, 77, 77 + 256, 77, 77, 77],
+    [4, 77, 77, -1, 77, 77],
 ];
 
 fn wrong_offers() -> Vec<Offer> {
@@ -87,7 +105,7 @@ struct Lent<'a> {
 impl Lent<'_> {
     fn step(&self, room: usize) {
         let Lent { mut card, bench, maker, mut values, word, first } = self.clone();
-        let wanted = if first == 0 && room < 11 { 5 } else { first };
+        let wanted = if first == 0 && room < 33 { 5 } else { first };
         let mut out = vec![0xEE; room];
         assert_eq!(calls::step(&mut card, bench, maker, &mut values, word, &mut out), -wanted);
         assert!(out.iter().all(|&byte| byte == 0xEE));
@@ -139,7 +157,7 @@ fn try_refusals(card: &[i32], before: bool, behind: bool) {
             word: if word_fault { 257 } else { 256 },
             first: tests.iter().find(|test| test.0).map_or(0, |test| test.1),
         };
-        for room in [0, 10, 11] {
+        for room in [0, 11, 32, 33] {
             lent.step(room);
             (0..4).for_each(|length| lent.run(room, length));
         }
@@ -152,17 +170,20 @@ fn order_of_refusals() {
     let mut open = Open::NONE;
     open.to_close(&words("L7m#00231"));
     let offer = Some(Offer { identifier: b'Z', value: 16 });
-    let sound = [row_of(&CARD).to_vec(), row_of(&Card { open, offer, ..CARD }).to_vec()];
+    let scan = Scan { count: 5, identifiers: *b"mJMMM" };
+    let sound = [row_of(&CARD).to_vec(), row_of(&Card { open, offer, scan, ..CARD }).to_vec()];
     for (cards, before) in [(&sound[..], false), (&wrong_cards()[..], true)] {
         for card in cards {
             try_refusals(card, before, false);
-            for numbers in WRONG_OFFERS {
+            let with = |from: usize, numbers: &[i32]| {
                 let mut card = card.clone();
-                if let Some(offer) = card.get_mut(13..16) {
-                    offer.copy_from_slice(&numbers);
+                if let Some(place) = card.get_mut(from..from + numbers.len()) {
+                    place.copy_from_slice(numbers);
                 }
-                try_refusals(&card, before, true);
-            }
+                card
+            };
+            WRONG_OFFERS.iter().for_each(|numbers| try_refusals(&with(13, numbers), before, true));
+            WRONG_SCANS.iter().for_each(|numbers| try_refusals(&with(16, numbers), before, true));
         }
     }
 }

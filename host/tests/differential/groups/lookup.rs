@@ -6,6 +6,9 @@ use kavtziron_host::gen::{self, Rng, World};
 
 pub(crate) fn lookup_random(rng: &mut Rng, _: u64, bench: &mut Bench) -> Checked {
     let mut world = World::new(rng);
+    if rng.percent(10) {
+        gen::add_scan_row(rng, &mut world.maker);
+    }
     match rng.below(6) {
         0 => gen::break_sheet(rng, &mut world.bench),
         1 => gen::break_sheet(rng, &mut world.maker),
@@ -16,6 +19,7 @@ pub(crate) fn lookup_random(rng: &mut Rng, _: u64, bench: &mut Bench) -> Checked
         _ => {}
     }
     let identifier = match rng.below(3) {
+        0 if rng.percent(10) => gen::SCAN,
         0 => rng.next() as u8,
         _ if world.rows.is_empty() => b'?',
         1 => rng.pick(&world.rows)[0] as u8 + 128 * (rng.below(20) == 0) as u8,
@@ -27,9 +31,16 @@ pub(crate) fn lookup_random(rng: &mut Rng, _: u64, bench: &mut Bench) -> Checked
 }
 
 pub(crate) fn lookup_every(rng: &mut Rng, _: u64, bench: &mut Bench) -> Checked {
-    let world = World::new(rng);
+    let mut world = World::new(rng);
+    // The sheets stay sound with a row for `]`.
+    match rng.below(4) {
+        0 => gen::add_scan_row(rng, &mut world.bench),
+        1 => gen::add_scan_row(rng, &mut world.maker),
+        _ => {}
+    }
     for identifier in 0..=255 {
-        let found = world.rows.iter().any(|row| row[0] == i32::from(identifier));
+        let mut rows = gen::rows_of(&world.bench).chain(gen::rows_of(&world.maker));
+        let found = rows.any(|row| row[0] == i32::from(identifier));
         let (first, maker) = (world.bench.clone(), world.maker.clone());
         let wanted = if found { 6 } else { 0 };
         bench.expect(Case::Lookup { bench: first, maker, identifier, room: 8 }, wanted)?;

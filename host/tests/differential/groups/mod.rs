@@ -4,6 +4,7 @@ mod lookup;
 mod normal_form;
 mod read;
 mod run;
+mod scan;
 mod step;
 mod write;
 
@@ -12,8 +13,9 @@ use crate::compare::compare;
 use kavtziron_host::gen::{self, Mixture, Rng, World};
 use lookup::{lookup_every, lookup_random};
 use normal_form::{normal_form_long, normal_form_random, normal_form_rooms};
-use read::{read_babble, read_edits, read_every, read_random};
+use read::{read_babble, read_edits, read_every, read_random, read_scans};
 use run::{every_data, every_pair, run_in_parts, run_long, run_random, run_rooms, wrong_word_behind};
+use scan::{scan_broken, scan_messages};
 use step::{every_word, refusals, step_random, step_spoiled, step_walk};
 use write::{line_random, line_rooms, write_random, write_rooms};
 
@@ -73,7 +75,7 @@ fn room_near(rng: &mut Rng, limit: usize) -> usize {
 fn some_words(rng: &mut Rng, world: &World, length: usize) -> Vec<u16> {
     match rng.below(6) {
         0 => gen::babble(rng, length),
-        1 => gen::recording(rng, world, length, gen::REALISTIC),
+        1 => gen::recording(rng, world, length, Mixture { scans: 20, ..gen::REALISTIC }),
         2 => {
             let mut words = gen::recording(rng, world, length, Mixture { spoiled: 0, ..gen::REALISTIC });
             gen::edit(rng, &mut words, 0);
@@ -84,8 +86,8 @@ fn some_words(rng: &mut Rng, world: &World, length: usize) -> Vec<u16> {
 }
 
 pub(crate) const GROUPS: &[Group] = &[
-    Group { name: "refusals: every set", numbers: 128 * 1_000, random: true, make: refusals },
-    Group { name: "step: random", numbers: 200_000, random: true, make: step_random },
+    Group { name: "refusals: every set", numbers: 256 * 500, random: true, make: refusals },
+    Group { name: "step: random", numbers: 180_000, random: true, make: step_random },
     Group { name: "step: one or two numbers spoiled", numbers: 200_000, random: true, make: step_spoiled },
     Group { name: "step: recordings word by word", numbers: 8_000, random: true, make: step_walk },
     Group { name: "step: every word", numbers: 65_536, random: false, make: every_word },
@@ -94,6 +96,8 @@ pub(crate) const GROUPS: &[Group] = &[
     Group { name: "run: in parts", numbers: 2_000, random: true, make: run_in_parts },
     Group { name: "run: long", numbers: 150, random: true, make: run_long },
     Group { name: "run: wrong word behind the stop", numbers: 5_000, random: true, make: wrong_word_behind },
+    Group { name: "step and run: messages on ]", numbers: 4_000, random: true, make: scan_messages },
+    Group { name: "step and run: unsound scans", numbers: 5_000, random: true, make: scan_broken },
     Group { name: "run and normal form: every data", numbers: 100_000, random: false, make: every_data },
     Group { name: "run and normal form: every pair", numbers: 1 << 14, random: false, make: every_pair },
     Group { name: "normal form: random", numbers: 150_000, random: true, make: normal_form_random },
@@ -103,10 +107,11 @@ pub(crate) const GROUPS: &[Group] = &[
     Group { name: "write: every room", numbers: 6_000, random: true, make: write_rooms },
     Group { name: "line: random", numbers: 250_000, random: true, make: line_random },
     Group { name: "line: every room", numbers: 3_000, random: true, make: line_rooms },
-    Group { name: "read: random", numbers: 300_000, random: true, make: read_random },
-    Group { name: "read: babble", numbers: 200_000, random: true, make: read_babble },
+    Group { name: "read: random", numbers: 220_000, random: true, make: read_random },
+    Group { name: "read: babble", numbers: 120_000, random: true, make: read_babble },
     Group { name: "read: every data", numbers: 100_000, random: false, make: read_every },
-    Group { name: "read: every edit, address and room", numbers: 40, random: true, make: read_edits },
+    Group { name: "read: scans and near them", numbers: 3_000, random: true, make: read_scans },
+    Group { name: "read: every edit, address and room", numbers: 24, random: true, make: read_edits },
     Group { name: "lookup: random", numbers: 150_000, random: true, make: lookup_random },
     Group { name: "lookup: every identifier and room", numbers: 500, random: true, make: lookup_every },
 ];

@@ -7,7 +7,7 @@ use kavtziron_host::reference::calls;
 
 fn bytes_of_run(lent: &Lent, words: &[u16]) -> usize {
     let (mut card, mut values) = (lent.card.clone(), lent.values.clone());
-    let mut out = vec![0; words.len() * 11 + 11];
+    let mut out = vec![0; words.len() * 7 + 33];
     let mut counts = [0; 2];
     calls::run(&mut card, &lent.bench, &lent.maker, &mut values, words, &mut out, &mut counts);
     counts[1] as usize
@@ -61,7 +61,7 @@ pub(crate) fn run_in_parts(rng: &mut Rng, _: u64, bench: &mut Bench) -> Checked 
     for _ in 0..40 {
         let end = from + rng.below(words.len() - from + 1);
         let part = words[from..end].to_vec();
-        let room = rng.below(30);
+        let room = rng.below(50);
         let lent: Lent = world.clone().into();
         bench.check(Case::Run { world: lent, words: part.clone(), room, counts: 2 })?;
         let mut out = vec![0; room];
@@ -104,6 +104,8 @@ pub(crate) fn every_pair(rng: &mut Rng, number: u64, bench: &mut Bench) -> Check
     let room = words.len();
     bench.check(Case::NormalForm { words: words.clone(), room })?;
     let mut world = World::with_rows(rng, 40, 40);
+    let named = rng.pick(&[0, 4, 5]);
+    world.scan(rng, named);
     world.card[..2].copy_from_slice(&[76, 7]);
     bench.check(Case::Run { world: world.into(), words, room: 44, counts: 2 })?;
     Ok(())
@@ -115,6 +117,6 @@ pub(crate) fn wrong_word_behind(rng: &mut Rng, _: u64, bench: &mut Bench) -> Che
     let length = 40 + rng.below(40);
     let mut words = gen::recording(rng, &world, length, gen::REALISTIC);
     words.push(gen::wrong_word(rng));
-    let room = rng.below(12);
+    let room = rng.below(34);
     bench.expect(Case::Run { world: world.into(), words, room, counts: 2 }, -4)
 }

@@ -19,7 +19,11 @@ fn any_word(rng: &mut Rng) -> u16 {
 pub(crate) fn step_random(rng: &mut Rng, _: u64, bench: &mut Bench) -> Checked {
     let world = World::new(rng);
     let word = any_word(rng);
-    let room = if rng.percent(90) { 11 + rng.below(3) } else { rng.below(14) };
+    let room = match rng.below(20) {
+        0 => 32,
+        1 => rng.below(36),
+        _ => 33 + rng.below(3),
+    };
     bench.check(Case::Step { world: world.into(), word, room })?;
     Ok(())
 }
@@ -44,7 +48,7 @@ pub(crate) fn step_spoiled(rng: &mut Rng, _: u64, bench: &mut Bench) -> Checked 
         }
     }
     let word = any_word(rng);
-    let room = 11 + rng.below(3);
+    let room = 33 + rng.below(3);
     bench.check(Case::Step { world: world.into(), word, room })?;
     Ok(())
 }
@@ -55,10 +59,10 @@ pub(crate) fn step_walk(rng: &mut Rng, _: u64, bench: &mut Bench) -> Checked {
     let length = 10 + rng.below(50);
     let words = gen::recording(rng, &world, length, gen::ROUGH);
     for word in words {
-        let room = 11 + rng.below(2);
+        let room = 33 + rng.below(2);
         let lent: Lent = world.clone().into();
         bench.check(Case::Step { world: lent, word, room })?;
-        let mut out = [0; 11];
+        let mut out = [0; 33];
         calls::step(&mut world.card, &world.bench, &world.maker, &mut world.values, word, &mut out);
     }
     Ok(())
@@ -67,7 +71,7 @@ pub(crate) fn step_walk(rng: &mut Rng, _: u64, bench: &mut Bench) -> Checked {
 /// Every word there is, to a card in the middle of something.
 pub(crate) fn every_word(rng: &mut Rng, number: u64, bench: &mut Bench) -> Checked {
     let world = World::new(rng);
-    bench.check(Case::Step { world: world.into(), word: number as u16, room: 12 })?;
+    bench.check(Case::Step { world: world.into(), word: number as u16, room: 34 })?;
     Ok(())
 }
 
@@ -83,6 +87,10 @@ pub(crate) fn refusals(rng: &mut Rng, number: u64, bench: &mut Bench) -> Checked
     }
     if has(3) {
         gen::break_offer(rng, &mut world);
+        first = 1;
+    }
+    if has(7) {
+        gen::break_scan(rng, &mut world);
         first = 1;
     }
     if has(1) {
@@ -103,7 +111,8 @@ pub(crate) fn refusals(rng: &mut Rng, number: u64, bench: &mut Bench) -> Checked
     let lent: Lent = world.into();
 
     let word = if has(5) { gen::wrong_word(rng) } else { u16::from(gen::on_line(b'*')) };
-    let room = if has(6) { rng.below(11) } else { 11 + rng.below(4) };
+    let short = if rng.percent(50) { 32 } else { rng.below(33) };
+    let room = if has(6) { short } else { 33 + rng.below(4) };
     let case = Case::Step { world: lent.clone(), word, room };
     match if first == 0 && has(6) { 5 } else { first } {
         0 => bench.check(case).map(|_| ())?,

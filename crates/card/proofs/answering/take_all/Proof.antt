@@ -1,6 +1,8 @@
 -- `card::take_all` meets its contract. The loop's invariant: what is played from here on, behind what is written, is what is played
 -- from the first word that closes a message on; a word that is left closes one; and the open message has ten places. Assumes nothing.
 use mathlib.Core.Path.{_≡_, refl, sym, ap, ap₂, _∙_, subst}
+use mathlib.Core.Logic.{⊎-elim}
+use mathlib.Core.Bool.{Bool, true}
 use mathlib.Core.List.{List}
 use Prim.Native.Nat.{ℕ, _+_, _-_, _≤_, _<_}
 use native.Mathlib.Omega.{arith}
@@ -14,6 +16,8 @@ use Rattle.hearing.specs.declared.Halt.{Halt}
 use Rattle.hearing.specs.Hearing.{none, openOf, hear}
 use Rattle.hearing.specs.Inner.{Reached, toClose}
 use Rattle.hearing.proofs.Close.{reached-in, reached-hears, reached-long}
+use Rattle.sheet.specs.Sheet.{soundSheet}
+use Rattle.sheet.specs.Inner.{indexOf}
 use Rattle.act.specs.declared.Setup.{Setup}
 use Rattle.act.specs.declared.Offer.{Offer}
 use Rattle.card.specs.declared.Card.{Card}
@@ -21,7 +25,7 @@ use Rattle.card.specs.declared.Ran.{Ran}
 use Rattle.card.specs.declared.RunAnswer.the-variants.{Took}
 use Rattle.card.specs.Calls.{runAfter, ended}
 use Rattle.card.specs.Turn.{Turn, turned, turn, Played, stopped, play}
-use Rattle.card.specs.Inner.{Settled}
+use Rattle.card.specs.Inner.{isScan, Settled}
 use Rattle.card.proofs.Turns.{effects, turn-closes}
 use Rattle.card.proofs.Runs.{Carried, playedFrom, starts, begins, turned as turned-on, carried-reached, no-room, ends, over}
 use Rattle.card.proofs.Settled.{Done, Undone, gave-done, refused-undone}
@@ -109,7 +113,7 @@ ten-places s = search needs
 
 loop-holds : tie.Need-loop-holds Inv-loop μ-loop
 loop-holds c =
-    let t = c .before .before .before in
+    let t = c .before .before .before .before in
     let p = card₀ t .pending in (
       begun t,
       subst (Closes (words t)) (sym (is-first t)) (reached-hears (words t) p 0),
@@ -119,7 +123,7 @@ loop-holds c =
 -- where the loop stands
 module _ (l : tie.At-loop Inv-loop μ-loop) where
   abbrev begin : tie.After-to-close Inv-loop μ-loop
-  begin = l .before .before .before .before
+  begin = l .before .before .before .before .before
 
   abbrev reached : Reached
   reached = reachedOf (l .loop .chars) (l .loop .halt)
@@ -130,27 +134,44 @@ module _ (l : tie.At-loop Inv-loop μ-loop) where
 slice-aggregate-closed : tie.Need-slice-aggregate-closed Inv-loop μ-loop
 slice-aggregate-closed c = sym (c .before .before .before .loop .inv .2)
 
-slice-aggregate-effect-of : tie.Need-slice-aggregate-effect-of Inv-loop μ-loop
-slice-aggregate-effect-of c = omega arith
+-- what the effects' functions ask for
+module _ (i : tie.After-is-scan Inv-loop μ-loop) where
+  abbrev stands : tie.At-loop Inv-loop μ-loop
+  stands = i .before .before .before .before .before
+
+  abbrev parsed : Parsed
+  parsed = i .before .closed .result
+
+  asked : {b : Bool} → i .is-scan .result ≡ b → (soundSheet (bench (begin stands)) ≡ true) × (soundSheet (maker (begin stands)) ≡ true) × (stands .before .before .index .result ≡ indexOf (bench (begin stands)) (maker (begin stands))) × (isScan parsed ≡ b)
+  asked q = (start (begin stands) .pre .0, start (begin stands) .pre .1, stands .before .before .index .ensures, sym (i .is-scan .ensures) ∙ q)
+
+scan-effect-requires : tie.Need-scan-effect-requires Inv-loop μ-loop
+scan-effect-requires c κs = asked (c .before .before) (c .before .if3 .taken)
+
+effect-of-requires : tie.Need-effect-of-requires Inv-loop μ-loop
+effect-of-requires c κs = asked (c .before .before) (c .before .if3 .left)
 
 -- the effect of the closed message: the word's turn as the code has it
-module _ (e : tie.After-effect-of Inv-loop μ-loop) where
+module _ (e : tie.Joined3 Inv-loop μ-loop) where
   abbrev at-loop : tie.At-loop Inv-loop μ-loop
-  at-loop = e .before .before .before .before .before .before .before
+  at-loop = stands (e .before)
 
   abbrev leads : Turn
-  leads = turned (here at-loop) none (e .effect-of .result)
+  leads = turned (here at-loop) none (e .if3 .effect)
 
   in-words : at-loop .loop .halt .at < length (words (begin at-loop))
-  in-words = e .before .before .before .before .before .if2 .taken
+  in-words = e .before .before .before .before .if2 .taken
+
+  is-effect : e .if3 .effect ≡ effects (bench (begin at-loop)) (maker (begin at-loop)) (here at-loop) (at-loop .loop .values) (parsed (e .before))
+  is-effect = ⊎-elim (λ w. w .3 ∙ w .2 .ensures) (λ w. w .3 ∙ w .2 .ensures) (e .if3 .came)
 
   is-turn : leads ≡ turn (bench (begin at-loop)) (maker (begin at-loop)) (here at-loop) (at-loop .loop .values) (getD (words (begin at-loop)) (at-loop .loop .halt .at) 0)
   unfolding openOf
   is-turn =
       let t = begin at-loop in
       let v = at-loop .loop .values in
-      ap (turned (here at-loop) none) (e .effect-of .ensures)
-      ∙ ap (λ (o : Parsed). turned (here at-loop) none (effects (bench t) (maker t) (here at-loop) v o)) (e .before .before .before .closed .ensures)
+      ap (turned (here at-loop) none) is-effect
+      ∙ ap (λ (o : Parsed). turned (here at-loop) none (effects (bench t) (maker t) (here at-loop) v o)) (e .before .before .closed .ensures)
       ∙ sym (turn-closes (bench t) (maker t) (here at-loop) v (getD (words t) (at-loop .loop .halt .at) 0) _ (at-loop .loop .inv .1 in-words))
 
 settle-requires : tie.Need-settle-requires Inv-loop μ-loop
@@ -160,7 +181,7 @@ settle-requires c κs =
 
 -- what it has come to
 module _ (s : tie.After-settle Inv-loop μ-loop) where
-  abbrev effect : tie.After-effect-of Inv-loop μ-loop
+  abbrev effect : tie.Joined3 Inv-loop μ-loop
   effect = s .before .before .before
 
   abbrev loop : tie.At-loop Inv-loop μ-loop
@@ -174,7 +195,7 @@ module _ (c : tie.After-enum-told Inv-loop μ-loop) where
   abbrev unsettled : tie.After-settle Inv-loop μ-loop
   unsettled = c .before .before .before .before .before
 
-  undone : Undone (effect unsettled .effect-of .result) (loop unsettled .loop .values) (loop unsettled .loop .at) (loop unsettled .loop .out) (came unsettled)
+  undone : Undone (effect unsettled .if3 .effect) (loop unsettled .loop .values) (loop unsettled .loop .at) (loop unsettled .loop .out) (came unsettled)
   undone = refused-undone _ _ _ _ (came unsettled) (unsettled .settle .ensures) (numberOf (c .enum-told .given .0 .0)) (ap outcomeOf (c .enum-told .given .1))
 
 same-length : tie.Need-same-length Inv-loop μ-loop
@@ -204,16 +225,11 @@ module _ (k : tie.After-known-told Inv-loop μ-loop) where
   abbrev n : ℕ
   n = k .before .n .given .0 .0
 
-  done : Done (effect settled .effect-of .result) (loop settled .loop .values) (loop settled .loop .at) (loop settled .loop .out) (came settled) n
+  done : Done (effect settled .if3 .effect) (loop settled .loop .values) (loop settled .loop .at) (loop settled .loop .out) (came settled) n
   done = gave-done _ _ _ _ (came settled) (settled .settle .ensures) n (ap outcomeOf (k .before .n .given .1))
 
   room : loop settled .loop .at + n ≤ length (loop settled .loop .out)
   room = omega (arith, done .said .count, done .said .room)
-
-add-at : tie.Need-add-at Inv-loop μ-loop
-add-at c =
-    let l = loop (settled c) in
-    omega (arith, room c, l .loop .inv .0 .filling .long, start (begin l) .good .1 .1 .1 .1 .1 .0)
 
 add-to-close : tie.Need-add-to-close Inv-loop μ-loop
 add-to-close c =
@@ -225,7 +241,7 @@ module _ (c : tie.After-to-close2 Inv-loop μ-loop) where
   abbrev answered : tie.After-known-told Inv-loop μ-loop
   answered = c .before .before .before
 
-  abbrev closed : tie.After-effect-of Inv-loop μ-loop
+  abbrev closed : tie.Joined3 Inv-loop μ-loop
   closed = effect (settled answered)
 
   abbrev text : List ℕ
@@ -247,6 +263,12 @@ module _ (c : tie.After-to-close2 Inv-loop μ-loop) where
 
   behind : from ≤ next .at
   behind = subst (λ (r : Reached). from ≤ r .at) (sym is-next) (reached-in text none from (omega (arith, in-words closed)) .0)
+
+add-at : tie.Need-add-at Inv-loop μ-loop
+add-at c =
+    let k = answered c in
+    let l = loop (settled k) in
+    omega (arith, room k, l .loop .inv .0 .filling .long, start (begin l) .good .1 .1 .1 .1 .1 .0)
 
 loop-less : tie.Need-loop-less Inv-loop μ-loop
 loop-less c = omega (arith, in-words (closed c), behind c)
@@ -287,7 +309,7 @@ returns-3 c =
 
 pub take-all-spec : {M : Type 1} → statement M
 take-all-spec = tie.close (tie.spec
-    Inv-loop μ-loop (λ c κs. search needs) (λ c κs. search needs) returns (λ c κs. search needs) loop-holds slice-aggregate-closed
-    (λ c κs. search needs) slice-aggregate-effect-of (λ c κs. search needs) settle-requires (λ c. search needs) (λ c. search needs)
-    (λ c κs. search needs) same-length same-length-2 returns-2 add-at add-to-close (λ c κs. search needs) loop-less loop-again
-    (λ c κs. search needs) same-length-3 same-length-4 returns-3)
+    Inv-loop μ-loop (λ c κs. search needs) (λ c κs. search needs) returns (λ c κs. search needs) (λ c. search needs) loop-holds
+    slice-aggregate-closed (λ c κs. search needs) (λ c κs. search needs) scan-effect-requires effect-of-requires settle-requires
+    (λ c. search needs) (λ c. search needs) (λ c κs. search needs) same-length same-length-2 returns-2 add-to-close (λ c κs. search needs)
+    add-at loop-less loop-again (λ c κs. search needs) same-length-3 same-length-4 returns-3)

@@ -2,8 +2,8 @@
 use mathlib.Core.Path.{sym}
 use Rattle.reply.proofs.Reader.{character-in, character-out}
 use borrow.Author.Needs.{needs}
-use Rattle.reply.proofs.character_at.Statement.{statement}
-use Rattle.reply.proofs.character_at.Tie as tie
+use Rattle.reply.proofs.guessing.character_at.Statement.{statement}
+use Rattle.reply.proofs.guessing.character_at.Tie as tie
 
 returns : tie.Need-returns
 returns c = sym (character-in (c .before .before .args .bytes .now) (c .before .before .args .k))

@@ -1,8 +1,8 @@
 -- `reply::digit_of` meets its contract: a difference that stops at 0. Assumes nothing.
 use native.Mathlib.Omega.{arith}
 use Rattle.number.specs.Data.{digitOf}
-use Rattle.reply.proofs.digit_of.Statement.{statement}
-use Rattle.reply.proofs.digit_of.Tie as tie
+use Rattle.reply.proofs.guessing.digit_of.Statement.{statement}
+use Rattle.reply.proofs.guessing.digit_of.Tie as tie
 
 returns : tie.Need-returns
 unfolding digitOf

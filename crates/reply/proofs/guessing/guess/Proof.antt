@@ -6,8 +6,8 @@ use Rattle.number.specs.Data.{isDigit, digitOf}
 use Rattle.reply.specs.Read.{charactersOf, guessBehind}
 use Rattle.reply.proofs.Reader.{guess-one, guess-two}
 use borrow.Author.Needs.{needs}
-use Rattle.reply.proofs.guess.Statement.{statement}
-use Rattle.reply.proofs.guess.Tie as tie
+use Rattle.reply.proofs.guessing.guess.Statement.{statement}
+use Rattle.reply.proofs.guessing.guess.Tie as tie
 
 returns : tie.Need-returns
 returns c =

@@ -1,8 +1,8 @@
 -- `reply::guess_mark` meets its contract: each return by the tests that led there. Assumes nothing.
 use borrow.Author.Tests.{eq-eqb, ne-eqb}
 use Rattle.reply.specs.Read.{guessMark}
-use Rattle.reply.proofs.guess_mark.Statement.{statement}
-use Rattle.reply.proofs.guess_mark.Tie as tie
+use Rattle.reply.proofs.guessing.guess_mark.Statement.{statement}
+use Rattle.reply.proofs.guessing.guess_mark.Tie as tie
 
 returns : tie.Need-returns
 unfolding guessMark
