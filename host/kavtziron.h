@@ -90,7 +90,7 @@ int64_t kav_write(uint8_t letter, uint32_t address, uint8_t identifier, uint8_t 
 
 /*
  * Reads one whole reply. Gives 15, with answer holding letter, address, identifier, 'A', 'I' or 'N',
- * count of numbers (0, 1, or 4 or 5 of a scan), and five times a number in units of its last decimal and
+ * count of numbers (0, 1, or 4 or 5 of a scan), and five pairs: a number in units of its last decimal, and
  * its decimals (0, 0 behind the count). Refused with 6, and 5 where answer is shorter than fifteen.
  */
 int64_t kav_read(const uint8_t *bytes, size_t bytes_length,

@@ -133,7 +133,7 @@ fn copy(numbers: &[i32], out: &mut [i32])
 }
 
 // The row of an answer with so many numbers; those behind the last are 0 with no decimals.
-fn row_of(
+fn answer_numbers(
     answer: Answer,
     count: i32,
     a: Decimal,
@@ -177,10 +177,10 @@ fn answer_row(answer: Answer) -> [i32; ANSWER]
     };
     let content = answer.content;
     match content {
-        Content::Empty => row_of(answer, 0, none, none, none, none, none),
-        Content::Number(a) => row_of(answer, 1, a, none, none, none, none),
-        Content::Four(a, b, c, d) => row_of(answer, 4, a, b, c, d, none),
-        Content::Five(a, b, c, d, e) => row_of(answer, 5, a, b, c, d, e),
+        Content::Empty => answer_numbers(answer, 0, none, none, none, none, none),
+        Content::Number(a) => answer_numbers(answer, 1, a, none, none, none, none),
+        Content::Four(a, b, c, d) => answer_numbers(answer, 4, a, b, c, d, none),
+        Content::Five(a, b, c, d, e) => answer_numbers(answer, 5, a, b, c, d, e),
     }
 }
 

@@ -32,7 +32,7 @@ use Rattle.reply.specs.declared.Mark.the-variants.{Accepted, Offered, Declined}
 use Rattle.reply.specs.declared.Content.{Content}
 use Rattle.reply.specs.declared.Content.the-variants.{Empty, Number}
 use Rattle.reply.specs.declared.Answer.{Answer}
-use Rattle.reply.specs.Reply.{scanIdentifier, isNone, fitsContent, isAnswer}
+use Rattle.reply.specs.Reply.{scanIdentifier, isNoNumber, fitsContent, isAnswer}
 use Rattle.reply.proofs.Reader.{parts-answer, content-number, content-status, scan-no-status, scan-four, scan-five}
 use Rattle.act.specs.declared.Setup.{Setup}
 use Rattle.act.specs.declared.Offer.{Offer}
@@ -40,7 +40,7 @@ use Rattle.act.specs.declared.Offer.the-variants.{Nothing, Held}
 use Rattle.act.specs.declared.Said.the-variants.{Silence, Reply}
 use Rattle.act.specs.declared.Store.the-variants.{Keep, Put}
 use Rattle.act.specs.declared.Effect.{Effect}
-use Rattle.act.specs.Act.{answerTo, noNumber, says, accepts, shownBy, declines, query, moves, up, down, offers, setTo, decimalsOf, store, serve, named, valueOf, scanOf, declinesScan, serveScan, isFor, addressed, respond, act}
+use Rattle.act.specs.Act.{answerTo, noNumber, says, accepts, shownBy, declines, query, moves, up, down, offers, setTo, decimalsOf, store, serve, named, valueOf, scanOf, declinesScan, serveScan, isFor, addressed, onScan, onRow, respond, act}
 
 -- the row of i allows the value z
 pub record Allowed (bench maker : List ℤ) (i : ℕ) (z : ℤ) : Type 0 where
@@ -225,7 +225,7 @@ module _ (bench maker values : List ℤ) (v : soundValues bench maker values ≡
 
   module _ (u : eqb (m .identifier) scanIdentifier ≡ true) where
     good-declined : Good bench maker (declinesScan m)
-    unfolding declinesScan isNone
+    unfolding declinesScan isNoNumber
     good-declined =
         good-says bench maker m Declined noNumber
         (known Declined noNumber (content-number (m .identifier) Declined (withDecimals (pos 0) 0) (record { no-status = scan-no-status (m .identifier) u; fit = zero-fits; no-scan = or-right (not (eqb (m .identifier) scanIdentifier)) refl })))
@@ -261,10 +261,10 @@ module _ (bench maker values : List ℤ) (v : soundValues bench maker values ≡
       good-scan body.Store = good-silence bench maker Nothing
 
   pub good-act : (c : Setup) (o : Offer) → FairScan bench maker c → Fair bench maker o → Good bench maker (act bench maker c o values m)
-  unfolding act respond addressed
+  unfolding act respond onScan onRow addressed
   good-act c o s g =
-      choice (Good bench maker) (isFor c m)
-      (λ t.
-      choice (Good bench maker) (eqb (m .identifier) scanIdentifier) (λ u. good-scan u c s (m .body))
-      (λ u. good-serve o g u (m .body) (body-parts (m .identifier) (m .body) (p .fits-body))))
-      (λ t. good-silence bench maker Nothing)
+      choice (Good bench maker) (eqb (m .identifier) scanIdentifier)
+      (λ u. choice (Good bench maker) (isFor c m) (λ t. good-scan u c s (m .body)) (λ t. good-silence bench maker Nothing))
+      (λ u.
+      choice (Good bench maker) (isFor c m) (λ t. good-serve o g u (m .body) (body-parts (m .identifier) (m .body) (p .fits-body)))
+      (λ t. good-silence bench maker Nothing))

@@ -1,15 +1,15 @@
--- What is on offer after a message: only a Type 3 leaves an offer, the cut of its number for its identifier, where the row is not read
--- only and the number is in range. And such a Type 3 does leave it. Assumes nothing.
+-- What a message leads to, by its type and by whether it is on `]`. What is on offer after it: only a Type 3 leaves an offer, the cut of
+-- its number for its identifier, where the row is not read only and the number is in range. And such a Type 3 does leave it. Assumes nothing.
 use mathlib.Core.Path.{_≡_, refl, sym, ap, _∙_}
-use mathlib.Core.Bool.{true, false, _&&_}
-use mathlib.Core.List.{List}
+use mathlib.Core.Bool.{true, false, _&&_, _||_}
+use mathlib.Core.List.{List, map}
 use Prim.Native.Nat.{ℕ}
 use native.Mathlib.Omega.{arith}
-use borrow.Author.Tests.{eq-eqb}
+use borrow.Author.Tests.{eqb-true, eq-eqb}
 use lib.Dec.{eqb}
 use lib.IntN.{ℤ, pos}
 use lib.ListN.{getD}
-use Rattle.refusal.proofs.Logic.{ands, and-both, choice}
+use Rattle.refusal.proofs.Logic.{ands, and-both, or-cases, choice}
 use Rattle.number.specs.declared.Decimal.{Decimal}
 use Rattle.number.specs.Data.{withDecimals}
 use Rattle.number.specs.Number.{inRange, cut, raised, lowered}
@@ -24,13 +24,13 @@ use Rattle.reply.specs.declared.Mark.{Mark}
 use Rattle.reply.specs.declared.Mark.the-variants.{Accepted, Offered, Declined}
 use Rattle.reply.specs.declared.Content.{Content}
 use Rattle.reply.specs.declared.Content.the-variants.{Empty, Number, Four, Five}
-use Rattle.reply.specs.Reply.{scanIdentifier}
+use Rattle.reply.specs.Reply.{scanIdentifier, numbersIn}
 use Rattle.act.specs.declared.Setup.{Setup}
 use Rattle.act.specs.declared.Offer.{Offer}
 use Rattle.act.specs.declared.Offer.the-variants.{Nothing, Held}
 use Rattle.act.specs.declared.Said.the-variants.{Reply}
 use Rattle.act.specs.declared.Effect.{Effect}
-use Rattle.act.specs.Act.{answerTo, noNumber, says, accepts, shownBy, declines, query, moves, up, down, offers, setTo, decimalsOf, store, serve, named, valueOf, scanOf, declinesScan, serveScan, isFor, addressed, respond, act}
+use Rattle.act.specs.Act.{answerTo, noNumber, says, accepts, shownBy, declines, query, moves, up, down, offers, setTo, decimalsOf, store, serve, named, namesFrom, valueOf, scanOf, declinesScan, serveScan, isFor, addressed, onScan, onRow, respond, act}
 
 -- the message m leaves the value z on offer for the identifier i
 pub record Leaves (bench maker : List ℤ) (m : Message) (i : ℕ) (z : ℤ) : Type 0 where
@@ -125,13 +125,11 @@ module _ (bench maker : List ℤ) (m : Message) where
   left-scan c x body.Store = λ i z q. nothing q
 
   pub act-leaves : (c : Setup) (o : Offer) (values : List ℤ) (i : ℕ) (z : ℤ) → act bench maker c o values m .offer ≡ Held i z → Leaves bench maker m i z
-  unfolding act respond addressed
+  unfolding act respond onScan onRow addressed
   act-leaves c o values =
-      choice Left (isFor c m)
-      (λ t.
-      choice Left (eqb (m .identifier) scanIdentifier) (λ u. left-scan c _ (m .body))
-      (λ u. left-serve o (getD values (m .identifier) (pos 0)) (m .body) refl))
-      (λ t i z q. nothing q)
+      choice Left (eqb (m .identifier) scanIdentifier)
+      (λ u. choice Left (isFor c m) (λ t. left-scan c _ (m .body)) (λ t i z q. nothing q))
+      (λ u. choice Left (isFor c m) (λ t. left-serve o (getD values (m .identifier) (pos 0)) (m .body) refl) (λ t i z q. nothing q))
 
 -- ---- the values that a card names
 
@@ -140,7 +138,15 @@ pub value-is : (e : ℕ → Entry) (v : ℕ → ℤ) (i : ℕ) (r : Row) → e i
 unfolding valueOf
 value-is e v i r f = rw f
 
+-- all of them, in order
 module _ (c : Setup) (x : ℕ → Decimal) where
+  pub scan-names : (eqb (c .count) 4 || eqb (c .count) 5) ≡ true → numbersIn (scanOf c x) ≡ map x (namesFrom c 0 (c .count))
+  unfolding scanOf namesFrom
+  scan-names n =
+      or-cases (eqb (c .count) 4) (eqb (c .count) 5) n
+      (λ e. rw (eqb-true (c .count) 4 e) refl)
+      (λ e. rw (eqb-true (c .count) 5 e) refl)
+
   pub four-named : c .count ≡ 4 → scanOf c x ≡ Four (x (named c 0)) (x (named c 1)) (x (named c 2)) (x (named c 3))
   unfolding scanOf
   four-named n = rw n
@@ -158,11 +164,11 @@ own-card c m p q = and-both (eq-eqb (m .letter) (c .letter) (sym p)) (eq-eqb (m 
 
 -- what the card does, by whether the message is on `]`
 module _ (c : Setup) (o : Offer) (e : ℕ → Entry) (v : ℕ → ℤ) (m : Message) where
-  pub scan-responds : eqb (m .identifier) scanIdentifier ≡ true → addressed c m (serveScan c m (scanOf c (valueOf e v)) (m .body)) ≡ respond c o e v m
+  pub scan-responds : eqb (m .identifier) scanIdentifier ≡ true → onScan c e v m ≡ respond c o e v m
   unfolding respond
   scan-responds q = sym (rw q)
 
-  pub row-responds : eqb (m .identifier) scanIdentifier ≡ false → addressed c m (serve m (e (m .identifier)) o (v (m .identifier)) (m .body)) ≡ respond c o e v m
+  pub row-responds : eqb (m .identifier) scanIdentifier ≡ false → onRow c o e v m ≡ respond c o e v m
   unfolding respond
   row-responds q = sym (rw q)
 
@@ -173,7 +179,7 @@ module _ (bench maker : List ℤ) (c : Setup) (o : Offer) (values : List ℤ) (m
   -- on `]`: the values that the card names, or `N` with `00000`
   module _ (u : eqb (m .identifier) scanIdentifier ≡ true) where
     scanned : (b : Body) → m .body ≡ b → answered ≡ serveScan c m (scanOf c (valueOf (entryIn bench maker) (λ (i : ℕ). getD values i (pos 0)))) b
-    unfolding act respond addressed
+    unfolding act respond onScan onRow addressed
     scanned b e = rw (its, u, e)
 
     pub scan-said : m .body ≡ body.Query → eqb (c .count) 0 ≡ false → answered .said ≡ Reply (answerTo m Accepted (scanOf c (valueOf (entryIn bench maker) (λ (i : ℕ). getD values i (pos 0)))))
@@ -187,7 +193,7 @@ module _ (bench maker : List ℤ) (c : Setup) (o : Offer) (values : List ℤ) (m
   -- on any other identifier
   module _ (u : eqb (m .identifier) scanIdentifier ≡ false) where
     served : (b : Body) → m .body ≡ b → answered ≡ serve m (entryIn bench maker (m .identifier)) o (getD values (m .identifier) (pos 0)) b
-    unfolding act respond addressed
+    unfolding act respond onScan onRow addressed
     served b e = rw (its, u, e)
 
     pub status-said : m .body ≡ body.Status → answered .said ≡ Reply (answerTo m Accepted Empty)

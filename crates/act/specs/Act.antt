@@ -1,5 +1,6 @@
 -- What a card does with a heard message: what it says, the offer afterwards, and what is stored. Document 01, "What the card does".
--- e is the entry of the message's identifier in the sheets, v the value stored for it.
+-- Up to "the scan", e is the entry of the message's identifier in the sheets and v the value stored for it; behind it they give these for
+-- every identifier.
 use mathlib.Core.Bool.{Bool, cond, _&&_}
 use mathlib.Core.List.{List, [], _∷_}
 use Prim.Native.Nat.{ℕ, zero, suc}
@@ -110,6 +111,10 @@ serve m e o v body.Store = store m e o
 
 -- ---- the scan. Document 02, ticket 1: "A card names five identifiers for it, in order, repeats allowed; a 20-digit form with four"
 
+-- so many at most
+abbrev pub mostNamed : ℕ
+mostNamed = 5
+
 -- the k-th identifier that a card names
 abbrev pub named : Setup → ℕ → ℕ
 named c k = getD (c .scan) k 0
@@ -123,7 +128,7 @@ namesFrom c k (suc n) = named c k ∷ namesFrom c (suc k) n
 unfoldable pub valueOf : (ℕ → Entry) → (ℕ → ℤ) → ℕ → Decimal
 valueOf e v i = withDecimals (v i) (decimalsOf (e i))
 
--- the values of the four or five identifiers that the card names
+-- the values of the four identifiers that the card names, or of the five: a sound card that names some has no other count
 unfoldable pub scanOf : Setup → (ℕ → Decimal) → Content
 scanOf c x =
     cond (eqb (c .count) 4) (Four (x (named c 0)) (x (named c 1)) (x (named c 2)) (x (named c 3)))
@@ -153,11 +158,16 @@ isFor c m = eqb (m .letter) (c .letter) && eqb (m .address) (c .address)
 unfoldable pub addressed : Setup → Message → Effect → Effect
 addressed c m x = cond (isFor c m) x silent
 
--- e gives the entry of each identifier, and v the value stored at its place
+-- e gives the entry of each identifier, and v the value stored at its place: a message on `]`
+unfoldable pub onScan : Setup → (ℕ → Entry) → (ℕ → ℤ) → Message → Effect
+onScan c e v m = addressed c m (serveScan c m (scanOf c (valueOf e v)) (m .body))
+
+-- on any other identifier
+unfoldable pub onRow : Setup → Offer → (ℕ → Entry) → (ℕ → ℤ) → Message → Effect
+onRow c o e v m = addressed c m (serve m (e (m .identifier)) o (v (m .identifier)) (m .body))
+
 unfoldable pub respond : Setup → Offer → (ℕ → Entry) → (ℕ → ℤ) → Message → Effect
-respond c o e v m =
-    addressed c m
-    (cond (eqb (m .identifier) scanIdentifier) (serveScan c m (scanOf c (valueOf e v)) (m .body)) (serve m (e (m .identifier)) o (v (m .identifier)) (m .body)))
+respond c o e v m = cond (eqb (m .identifier) scanIdentifier) (onScan c e v m) (onRow c o e v m)
 
 -- under these sheets and values
 unfoldable pub act : List ℤ → List ℤ → Setup → Offer → List ℤ → Message → Effect

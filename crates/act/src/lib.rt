@@ -4,7 +4,7 @@ ghost use lib.IntN.{pos};
 ghost use lib.ListN.{getD};
 ghost use Rattle.number.specs.Data.{withDecimals};
 ghost use Rattle.sheet.specs.Inner.{entryAt};
-ghost use Rattle.act.specs.Act.{silent, answerTo, says, accepts, shownBy, declines, query, moves, up, down, offers, setTo, decimalsOf, store, serve, valueOf, scanOf, declinesScan, serveScan, isFor, addressed};
+ghost use Rattle.act.specs.Act.{silent, answerTo, says, accepts, shownBy, declines, query, moves, up, down, offers, setTo, decimalsOf, store, serve, valueOf, scanOf, declinesScan, serveScan, isFor, onScan, onRow};
 use message::Body;
 use message::Message;
 use number::Decimal;
@@ -349,7 +349,7 @@ pub fn on_scan<'a>(
     values: &[i32],
     message: Message,
 ) -> Effect
-    ensures { λ r. ⌜ r ≡ addressed setup message (serveScan setup message (scanOf setup (valueOf (entryAt (now (bench .entry)) (now (maker .entry)) (now (places .entry))) (λ i. getD (now (values .entry)) i (pos 0)))) (message .body)) ⌝ }
+    ensures { λ r. ⌜ r ≡ onScan setup (entryAt (now (bench .entry)) (now (maker .entry)) (now (places .entry))) (λ i. getD (now (values .entry)) i (pos 0)) message ⌝ }
 {
     if !is_for(setup, message) {
         return silent();
@@ -367,7 +367,7 @@ pub fn on_row<'a>(
     values: &[i32],
     message: Message,
 ) -> Effect
-    ensures { λ r. ⌜ r ≡ addressed setup message (serve message (entryAt (now (bench .entry)) (now (maker .entry)) (now (places .entry)) (message .identifier)) offer (getD (now (values .entry)) (message .identifier) (pos 0)) (message .body)) ⌝ }
+    ensures { λ r. ⌜ r ≡ onRow setup offer (entryAt (now (bench .entry)) (now (maker .entry)) (now (places .entry))) (λ i. getD (now (values .entry)) i (pos 0)) message ⌝ }
 {
     if !is_for(setup, message) {
         return silent();

@@ -1,5 +1,5 @@
--- What a sound card and a sound offer are, by their parts, and what a word leaves of a sound card with sound values: both are sound
--- again, no place without a row is touched, and what the card says is an answer as the reader knows them. Assumes nothing.
+-- What a sound card, a sound offer and a sound scan are, by their parts, and what a word leaves of a sound card with sound values: both
+-- are sound again, no place without a row is touched, and what the card says is an answer as the reader knows them. Assumes nothing.
 use mathlib.Core.Path.{_≡_, refl, sym, ap, _∙_, subst}
 use mathlib.Core.Bool.{Bool, true, false, not, _||_, false≢true}
 use mathlib.Core.List.{List}
@@ -142,6 +142,11 @@ found-missing e = let n : _≡_ {A = ℕ} 0 1 = cc in omega arith
 module _ (bench maker : List ℤ) where
   pub no-scan-row : hasRow bench scanIdentifier ≡ false → hasRow maker scanIdentifier ≡ false → noScanRow bench maker ≡ true
   no-scan-row p q = rw (p, q)
+
+  -- as with every sound scan
+  pub scan-no-row : (s : Setup) → soundScan bench maker s ≡ true → noScanRow bench maker ≡ true
+  unfolding soundScan
+  scan-no-row s e = search ands
 
   -- so an identifier with a row is another
   pub row-no-scan : noScanRow bench maker ≡ true → (i : ℕ) (r : Row) → entryIn bench maker i ≡ Found r → eqb i scanIdentifier ≡ false

@@ -29,7 +29,7 @@ use Rattle.act.specs.declared.Said.{Said}
 use Rattle.act.specs.declared.Said.the-variants.{Silence, Reply}
 use Rattle.act.specs.declared.Effect.{Effect}
 use Rattle.act.specs.declared.Store.the-variants.{Keep}
-use Rattle.act.specs.Act.{serve, valueOf, scanOf, serveScan, addressed, respond, act}
+use Rattle.act.specs.Act.{onScan, onRow, respond, act}
 use Rattle.act.proofs.OnOffer.{scan-responds, row-responds}
 use Rattle.card.specs.declared.Card.{Card}
 use Rattle.card.specs.Turn.{Turn, replyOf, effectOf, withBoth, turned, turn}
@@ -38,7 +38,7 @@ use Rattle.card.specs.Turn.{Turn, replyOf, effectOf, withBoth, turned, t
 abbrev pub stays : Card → Turn
 stays c = record { card = c; reply = []; store = Keep }
 
--- document 01: "No reply is longer than 11 bytes."
+-- document 02, ticket 1: "Longest reply becomes 33 bytes"
 pub reply-length : (s : Said) → length (replyOf s) ≤ longestReply
 reply-length Silence = lit≤ tt
 reply-length (Reply a) = subst (λ (n : ℕ). n ≤ longestReply) (sym (travelling-length (spellAnswer a))) (answer-length a)
@@ -66,11 +66,11 @@ module _ (bench maker : List ℤ) where
 
     module _ (places : List ℕ) (m : Message) (b : soundSheet bench ≡ true) (k : soundSheet maker ≡ true) (e : places ≡ indexOf bench maker) where
       pub effect-scan : eqb (m .identifier) scanIdentifier ≡ true
-          → addressed s m (serveScan s m (scanOf s (valueOf (entryAt bench maker places) (λ (i : ℕ). getD values i (pos 0)))) (m .body)) ≡ effectOf bench maker s o values (Heard m)
+          → onScan s (entryAt bench maker places) (λ (i : ℕ). getD values i (pos 0)) m ≡ effectOf bench maker s o values (Heard m)
       effect-scan q = scan-responds s o (entryAt bench maker places) (λ (i : ℕ). getD values i (pos 0)) m q ∙ effect-index places m b k e
 
       pub effect-row : eqb (m .identifier) scanIdentifier ≡ false
-          → addressed s m (serve m (entryAt bench maker places (m .identifier)) o (getD values (m .identifier) (pos 0)) (m .body)) ≡ effectOf bench maker s o values (Heard m)
+          → onRow s o (entryAt bench maker places) (λ (i : ℕ). getD values i (pos 0)) m ≡ effectOf bench maker s o values (Heard m)
       effect-row q = row-responds s o (entryAt bench maker places) (λ (i : ℕ). getD values i (pos 0)) m q ∙ effect-index places m b k e
 
   -- ---- a word

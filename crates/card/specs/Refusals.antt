@@ -65,7 +65,8 @@ cardChecks c bench maker values ws =
     ∷ refuseIf (not (validWords ws)) WordAbove256
     ∷ []
 
--- a single word: the same, then number 5, "under 33 bytes for a single word's reply" since document 02, ticket 1
+-- a single word: the same, then number 5, "under 11 bytes for a single word's reply"; document 02, ticket 1: "Longest reply becomes 33 bytes,
+-- and the single-word room follows it"
 abbrev pub roomCheck : List ℕ → Check
 roomCheck out = refuseIf (ltb (length out) longestReply) RoomTooShort
 

@@ -54,7 +54,7 @@ fn is_scan(parsed: Parsed) -> bool
     let Parsed::Heard(message) = parsed else {
         return false;
     };
-    message.identifier == b']'
+    message.identifier == reply::SCAN
 }
 
 // What a closed message on `]` leads to, at a card with this setup and offer. `places` is the index of the two sheets.

@@ -157,7 +157,7 @@ pub fn sound_offer<'a>(bench: &'a [i32], maker: &'a [i32], offer: Offer) -> bool
 }
 
 // Whether the identifier has a row that can be read.
-fn is_readable<'a>(bench: &'a [i32], maker: &'a [i32], identifier: u8) -> bool
+fn has_readable_row<'a>(bench: &'a [i32], maker: &'a [i32], identifier: u8) -> bool
     ensures { λ r. ⌜ r ≡ isReadableEntry (entryIn (now (bench .entry)) (now (maker .entry)) identifier) ⌝ }
 {
     let Entry::Found(named) = sheet::find(bench, maker, identifier) else {
@@ -170,16 +170,16 @@ fn is_readable<'a>(bench: &'a [i32], maker: &'a [i32], identifier: u8) -> bool
 fn four_readable<'a>(bench: &'a [i32], maker: &'a [i32], a: u8, b: u8, c: u8, d: u8) -> bool
     ensures { λ r. ⌜ r ≡ every (λ i. isReadableEntry (entryIn (now (bench .entry)) (now (maker .entry)) i)) (a ∷ b ∷ c ∷ d ∷ []) ⌝ }
 {
-    is_readable(bench, maker, a)
-        & (is_readable(bench, maker, b)
-            & (is_readable(bench, maker, c) & is_readable(bench, maker, d)))
+    has_readable_row(bench, maker, a)
+        & (has_readable_row(bench, maker, b)
+            & (has_readable_row(bench, maker, c) & has_readable_row(bench, maker, d)))
 }
 
 // The identifiers that a card names for its scan, and `]` without a row.
 pub fn sound_scan<'a>(bench: &'a [i32], maker: &'a [i32], setup: Setup) -> bool
     ensures { λ r. ⌜ r ≡ soundScan (now (bench .entry)) (now (maker .entry)) setup ⌝ }
 {
-    if sheet::has_row(bench, b']') | sheet::has_row(maker, b']') {
+    if sheet::has_row(bench, reply::SCAN) | sheet::has_row(maker, reply::SCAN) {
         return false;
     }
     let names = setup.scan;
@@ -192,7 +192,7 @@ pub fn sound_scan<'a>(bench: &'a [i32], maker: &'a [i32], setup: Setup) -> bool
     if setup.count != 5 {
         return false;
     }
-    is_readable(bench, maker, names[0])
+    has_readable_row(bench, maker, names[0])
         & four_readable(bench, maker, names[1], names[2], names[3], names[4])
 }
 

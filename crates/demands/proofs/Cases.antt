@@ -20,10 +20,10 @@ use Rattle.sheet.specs.Sheet.{rows, soundIdentifier, soundNumbers, soundRow, so
 use Rattle.sheet.specs.Lookup.{codeIs, rowAmong, placeAmong, rowIn, placeIn, hasRow, rowOf}
 use Rattle.sheet.specs.Lookup as lookup
 use Rattle.sheet.specs.Values.{numbersOf, entryOf, entryIn, isReadable, isReadableEntry, isWritable, isReadWrite, fitsRow, fitsPlace, soundFrom, soundValues}
-use Rattle.reply.specs.Reply.{spellScan, spellContent, spellAnswer, isNone, fitsContent, isAnswer}
-use Rattle.reply.specs.Read.{charactersOf, guessMark, decimalOf, numberAt, guessContent, guessBehind, guess, isReply}
+use Rattle.reply.specs.Reply.{spellScan, spellContent, spellAnswer, isNoNumber, fitsContent, isAnswer}
+use Rattle.reply.specs.Read.{charactersOf, guessMark, readOrZero, decimalAt, guessContent, guessBehind, guess, isReply, readCall}
 use Rattle.act.specs.declared.Offer.the-variants.{Nothing}
-use Rattle.act.specs.Act.{namesFrom, valueOf, scanOf, declinesScan, serveScan, says, accepts, shownBy, declines, query, moves, up, down, offers, setTo, store, serve, isFor, addressed, respond, act}
+use Rattle.act.specs.Act.{namesFrom, valueOf, scanOf, declinesScan, serveScan, says, accepts, shownBy, declines, query, moves, up, down, offers, setTo, store, serve, isFor, addressed, onScan, onRow, respond, act}
 use Rattle.card.specs.Turn.{effectOf, turned, turn, stored, play}
 use Rattle.card.specs.Refusals.{soundScan, soundSetup, soundCard, offerable, soundOffer, cardChecks}
 use Rattle.card.specs.Calls.{runCall}
@@ -32,7 +32,7 @@ use Rattle.demands.specs.Bench.{benchRows, benchValues, benchCard, Case,
 
 -- what a table computes through
 computed : List Case → Bool
-unfolding ones onesIn every same laid first evenParity withParity received travelling validWords inRange isMultiple cutDown cut raised lowered digit isDigit digitOf fits codeOf fiveDigits spellData decode readNext readFrom readData isLetter isAddress isIdentifier extendIdentifier extendAddress extendData extendBody extend extendAll finish parse spellAddress none added openOf opening continuing actionOf perform hear plainChar plain zeros soundPending rows soundIdentifier soundNumbers soundRow soundRows soundSheet codeIs lookup.isFor rowAmong placeAmong rowIn placeIn hasRow rowOf numbersOf entryOf entryIn isReadable isWritable isReadWrite fitsRow fitsPlace soundFrom soundValues spellContent spellAnswer says accepts shownBy declines query moves up down offers setTo store serve isFor addressed respond act effectOf turned turn stored play soundSetup soundCard offerable soundOffer isReadableEntry namesFrom soundScan serveScan declinesScan cardChecks runCall benchRows benchValues benchCard equalZ took answersAll passes
+unfolding ones onesIn every same laid first evenParity withParity received travelling validWords inRange isMultiple cutDown cut raised lowered digit isDigit digitOf fits codeOf fiveDigits spellData decode readNext readFrom readData isLetter isAddress isIdentifier extendIdentifier extendAddress extendData extendBody extend extendAll finish parse spellAddress none added openOf opening continuing actionOf perform hear plainChar plain zeros soundPending rows soundIdentifier soundNumbers soundRow soundRows soundSheet codeIs lookup.isFor rowAmong placeAmong rowIn placeIn hasRow rowOf numbersOf entryOf entryIn isReadable isWritable isReadWrite fitsRow fitsPlace soundFrom soundValues spellContent spellAnswer says accepts shownBy declines query moves up down offers setTo store serve isFor addressed onScan onRow respond act effectOf turned turn stored play soundSetup soundCard offerable soundOffer isReadableEntry namesFrom soundScan serveScan declinesScan cardChecks runCall benchRows benchValues benchCard equalZ took answersAll passes
 computed xs = every passes xs
 
 -- cases a to l
@@ -51,7 +51,7 @@ unfolding computed spellScan spellAll valueOf scanOf passesScan scanCard scanVal
 scan = refl
 
 pub no-replies : every isNoReply noReplies ≡ true
-unfolding computed charactersOf guessMark decimalOf numberAt guessContent guessBehind guess isReply isNone fitsContent isAnswer spellScan spellAll isNoReply noReplies
+unfolding computed charactersOf guessMark readOrZero decimalAt guessContent guessBehind guess isReply readCall isNoNumber fitsContent isAnswer spellScan spellAll isNoReply noReplies
 no-replies = refl
 
 -- the claims on sound cards, sheets and values are not empty: those of the bench are sound

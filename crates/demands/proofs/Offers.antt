@@ -1,7 +1,7 @@
 -- What a Type 3 message leaves on offer is sound and not above the number asked for; and a sound offer is left by the message that asks
 -- for its own value, since a multiple of the step is its own cut. Assumes nothing.
 use mathlib.Core.Path.{_≡_, refl, sym, ap, _∙_, subst}
-use mathlib.Core.Bool.{true, _&&_}
+use mathlib.Core.Bool.{true, _&&_, false≢true}
 use mathlib.Core.List.{List}
 use Prim.Native.Nat.{ℕ}
 use Prim.Native.Char.{code}
@@ -23,7 +23,9 @@ use Rattle.message.specs.declared.Parsed.the-variants.{Heard}
 use Rattle.message.specs.Message.{star, isMessage}
 use Rattle.message.proofs.Messages.{whole, parts-body, letter-is, address-is}
 use Rattle.hearing.specs.Hearing.{hear}
-use Rattle.hearing.proofs.Sound.{spelled-closed}
+use Rattle.message.specs.Spell.{spellOpen}
+use Rattle.message.proofs.Spelling.{open-length}
+use Rattle.hearing.proofs.Sound.{pending-holds, spelled-closed}
 use Rattle.sheet.specs.declared.Row.{Row}
 use Rattle.sheet.specs.Sheet.{soundSheet}
 use Rattle.sheet.proofs.Values.{SoundRow, entry-sound, entry-identifier, fits-parts, range-small}
@@ -38,7 +40,7 @@ use Rattle.card.specs.Refusals.{soundOffer, noScanRow}
 use Rattle.card.specs.Calls.{After, stepCall}
 use Rattle.card.proofs.Turns.{effects, effect-heard, turn-card}
 use Rattle.card.proofs.Steps.{served-step}
-use Rattle.card.proofs.Sounds.{Offerable, offer-parts, leaves-sound, row-no-scan, no-scan}
+use Rattle.card.proofs.Sounds.{Offerable, offer-parts, leaves-sound, row-no-scan, scan-no-row, no-scan}
 use Rattle.demands.specs.Demand2.{LeftBy, OfferReachable, NotAbove, NeverUp}
 use Rattle.demands.proofs.Words.{taken}
 use Rattle.demands.proofs.Possible.{cardFor, for-itself, room, star-valid, card-sound}
@@ -124,6 +126,8 @@ module _ (bench maker : List ℤ) (i : ℕ) (z : ℤ) where
         number = x;
         bytes = length (turn bench maker its values (withParity star) .reply);
         sound = sound;
+        room = pending-holds (spellOpen m) (open-length m) .room;
+        names-room = refl;
         nothing-before = refl;
         closes = spelled-closed m is-message;
         is-type-3 = refl;
@@ -136,4 +140,7 @@ module _ (bench maker : List ℤ) (i : ℕ) (z : ℤ) where
       }
 
 pub offer-reachable : OfferReachable
-offer-reachable = record { reachable = λ bench maker h free i z. (λ s. offer-left bench maker i z h free (offer-parts bench maker i z s), left-sound bench maker i z) }
+offer-reachable = record {
+  reachable = λ bench maker h free i z. (λ s. offer-left bench maker i z h free (offer-parts bench maker i z s), left-sound bench maker i z);
+  no-card = λ bench maker e c values s. false≢true (sym e ∙ scan-no-row bench maker (c .setup) (s .scan-sound));
+}

@@ -231,8 +231,8 @@ module _ (l a i : ℕ) (pl : isLetter l ≡ true) (pa : isAddress a ≡ true) (p
     abbrev asks : Message
     asks = asked body.Query
 
-    abbrev naming : Setup
-    naming = setupFor asks (length xs) letters
+    abbrev namer : Setup
+    namer = setupFor asks (length xs) letters
 
     abbrev valued : ℕ → Decimal
     valued = valueOf (entryIn (risingRows 65 xs) []) (λ (j : ℕ). getD (risingValues 65 xs) j (pos 0))
@@ -240,20 +240,20 @@ module _ (l a i : ℕ) (pl : isLetter l ≡ true) (pa : isAddress a ≡ true) (p
     codes : Codes 65 xs
     codes = rising-codes 65 xs (lit≤ tt) (omega arith)
 
-    entry : (k : ℕ) → k < length xs → entryIn (risingRows 65 xs) [] (named naming k) ≡ Found (itsNumbers 1 (nth xs k .decimals))
+    entry : (k : ℕ) → k < length xs → entryIn (risingRows 65 xs) [] (named namer k) ≡ Found (itsNumbers 1 (nth xs k .decimals))
     entry k h = rw (letter-is k (omega arith)) (rising-entry 65 k xs h codes f [])
 
-    value : (k : ℕ) → k < length xs → valued (named naming k) ≡ nth xs k
+    value : (k : ℕ) → k < length xs → valued (named namer k) ≡ nth xs k
     value k h =
-        value-is (entryIn (risingRows 65 xs) []) (λ (j : ℕ). getD (risingValues 65 xs) j (pos 0)) (named naming k) (itsNumbers 1 (nth xs k .decimals)) (entry k h)
+        value-is (entryIn (risingRows 65 xs) []) (λ (j : ℕ). getD (risingValues 65 xs) j (pos 0)) (named namer k) (itsNumbers 1 (nth xs k .decimals)) (entry k h)
         ∙ ap (λ (z : ℤ). withDecimals z (nth xs k .decimals)) (rw (letter-is k (omega arith)) (rising-there 65 k xs h codes))
 
-    scan-drawn : (eqb (length xs) 0 || eqb (length xs) 4 || eqb (length xs) 5) ≡ true → eqb (length xs) 0 ≡ false → (x : Content) → scanOf naming valued ≡ x → Drawn (travelling (spellAnswer (given Accepted x))) (given Accepted x)
+    scan-drawn : (eqb (length xs) 0 || eqb (length xs) 4 || eqb (length xs) 5) ≡ true → eqb (length xs) 0 ≡ false → (x : Content) → scanOf namer valued ≡ x → Drawn (travelling (spellAnswer (given Accepted x))) (given Accepted x)
     scan-drawn many some x e =
         drawn asks (a-message body.Query (scan-no-status i u)) (length xs) letters (risingRows 65 xs) [] (risingValues 65 xs) (given Accepted x)
-        (scan-said (risingRows 65 xs) [] naming Nothing (risingValues 65 xs) asks (for-itself asks (length xs) letters) u refl some ∙ ap (λ (y : Content). Reply (given Accepted y)) e)
+        (scan-said (risingRows 65 xs) [] namer Nothing (risingValues 65 xs) asks (for-itself asks (length xs) letters) u refl some ∙ ap (λ (y : Content). Reply (given Accepted y)) e)
         (and-both (rising-sound 65 xs (lit< tt) codes f (omega arith)) no-rows) refl
-        (readable-scan (risingRows 65 xs) [] (no-scan-row (risingRows 65 xs) [] (rising-else 65 scanIdentifier xs (omega arith)) (no-rows-none scanIdentifier)) naming many
+        (readable-scan (risingRows 65 xs) [] (no-scan-row (risingRows 65 xs) [] (rising-else 65 scanIdentifier xs (omega arith)) (no-rows-none scanIdentifier)) namer many
         (λ k h. (itsNumbers 1 (nth xs k .decimals), entry k h, read-only-readable (itsNumbers 1 (nth xs k .decimals)) refl)))
         (rising-values 65 xs codes f)
 
@@ -271,13 +271,13 @@ module _ (l a i : ℕ) (pl : isLetter l ≡ true) (pa : isAddress a ≡ true) (p
       let xs : List Decimal = a ∷ b ∷ c ∷ d ∷ [] in
       let v = value (p .is-scan) xs (p .fit) (lit≤ tt) in
       rw (p .is-accepted) (scan-drawn (p .is-scan) xs (p .fit) (lit≤ tt) refl refl (Four a b c d)
-      (four-named (naming (p .is-scan) xs (p .fit) (lit≤ tt)) (valued (p .is-scan) xs (p .fit) (lit≤ tt)) refl ∙ rw (v 0 (lit< tt), v 1 (lit< tt), v 2 (lit< tt), v 3 (lit< tt))))
+      (four-named (namer (p .is-scan) xs (p .fit) (lit≤ tt)) (valued (p .is-scan) xs (p .fit) (lit≤ tt)) refl ∙ rw (v 0 (lit< tt), v 1 (lit< tt), v 2 (lit< tt), v 3 (lit< tt))))
   content-drawn k (Five a b c d g) f =
       let p = five-content i k a b c d g f in
       let xs : List Decimal = a ∷ b ∷ c ∷ d ∷ g ∷ [] in
       let v = value (p .is-scan) xs (p .fit) (lit≤ tt) in
       rw (p .is-accepted) (scan-drawn (p .is-scan) xs (p .fit) (lit≤ tt) refl refl (Five a b c d g)
-      (five-named (naming (p .is-scan) xs (p .fit) (lit≤ tt)) (valued (p .is-scan) xs (p .fit) (lit≤ tt)) refl ∙ rw (v 0 (lit< tt), v 1 (lit< tt), v 2 (lit< tt), v 3 (lit< tt), v 4 (lit< tt))))
+      (five-named (namer (p .is-scan) xs (p .fit) (lit≤ tt)) (valued (p .is-scan) xs (p .fit) (lit≤ tt)) refl ∙ rw (v 0 (lit< tt), v 1 (lit< tt), v 2 (lit< tt), v 3 (lit< tt), v 4 (lit< tt))))
 
 pub answer-drawn : (a : Answer) → isAnswer a ≡ true → Drawn (travelling (spellAnswer a)) a
 answer-drawn a e =

@@ -1,6 +1,6 @@
 -- The bench cases of document 01 and the scan of document 02 as tables: each case its exchanges, message by message, and the value of m
 -- before and after.
-use mathlib.Core.Bool.{Bool, false, not, _&&_}
+use mathlib.Core.Bool.{Bool, false, _&&_}
 use mathlib.Core.List.{List, [], _∷_, _++_}
 use Prim.Native.Nat.{ℕ}
 use Prim.Native.Char.{code}
@@ -15,9 +15,11 @@ use Rattle.wire.specs.Text.{chars}
 use Rattle.wire.specs.Word.{travelling}
 use Rattle.hearing.specs.Hearing.{none}
 use Rattle.reply.specs.Reply.{longestReply}
-use Rattle.reply.specs.Read.{isReply}
+use Rattle.reply.specs.declared.Answer.{Answer}
+use Rattle.reply.specs.Read.{readCall}
 use Rattle.card.specs.declared.Card.{Card}
 use Rattle.act.specs.declared.Offer.the-variants.{Nothing}
+use Rattle.act.specs.Act.{mostNamed}
 use Rattle.card.specs.Calls.{After, Took, runCall}
 
 -- "Rows: `J` (2, 1 decimal, step 5, -100 to 100), `M` (1, 1, 1, -1999 to 9999), `Z` (3, 0, 1, 15 to 18), `m` (2, 1, 5, 0 to 1000)."
@@ -35,7 +37,7 @@ benchValues m = set (set (set (set (replicate 128 (pos 0)) (code "J") (pos 0)) (
 
 -- "Card `L`, address 7"; "no message open and no offer"
 unfoldable pub benchCard : Card
-benchCard = record { setup = record { letter = code "L"; address = 7; count = 0; scan = replicate 5 0 }; pending = none; offer = Nothing }
+benchCard = record { setup = record { letter = code "L"; address = 7; count = 0; scan = replicate mostNamed 0 }; pending = none; offer = Nothing }
 
 -- a message as sent, and what is answered to it
 pub record Exchange : Type 0 where
@@ -100,7 +102,7 @@ scanValues m = set (set (benchValues m) (code "J") (negsuc 14)) (code "T") (pos 
 -- the same card, with names for its scan
 unfoldable pub scanCard : String → Card
 scanCard names =
-    record { setup = record { letter = code "L"; address = 7; count = length (chars names); scan = take 5 (chars names ++ replicate 5 0) }; pending = none; offer = Nothing }
+    record { setup = record { letter = code "L"; address = 7; count = length (chars names); scan = take mostNamed (chars names ++ replicate mostNamed 0) }; pending = none; offer = Nothing }
 
 pub record ScanCase : Type 0 where
   pub names : String
@@ -120,6 +122,9 @@ scanCases =
     ∷ naming "MJmTM" (pos 20) ("L7]+*" ⇒ "L7]00000N*" ∷ "L7]-*" ⇒ "L7]00000N*" ∷ "L7]#00000*" ⇒ "L7]00000N*" ∷ []) (pos 20)
     ∷ naming "MJmTM" (pos 20) ("L7]I*" ⇒ "" ∷ []) (pos 20)
     ∷ naming "MJmTM" (pos 20) ("L7m#00301*" ⇒ "L7m00301I*" ∷ "L7]I*" ⇒ "" ∷ "L7mI*" ⇒ "" ∷ []) (pos 20)
+    ∷ naming "MJmTM" (pos 20) ("L7m#00301*" ⇒ "L7m00301I*" ∷ "L7]+*" ⇒ "L7]00000N*" ∷ "L7mI*" ⇒ "" ∷ []) (pos 20)
+    ∷ naming "MJmTM" (pos 20) ("L7m#00301*" ⇒ "L7m00301I*" ∷ "L7]-*" ⇒ "L7]00000N*" ∷ "L7mI*" ⇒ "" ∷ []) (pos 20)
+    ∷ naming "MJmTM" (pos 20) ("L7m#00301*" ⇒ "L7m00301I*" ∷ "L7]#00000*" ⇒ "L7]00000N*" ∷ "L7mI*" ⇒ "" ∷ []) (pos 20)
     ∷ naming "MJmT" (pos 20) ("L7m#00301*" ⇒ "L7m00301I*" ∷ "L7]?*" ⇒ "L7]2002311001560020112342A*" ∷ "L7mI*" ⇒ "" ∷ []) (pos 20)
     ∷ naming "" (pos 20) ("L7m#00301*" ⇒ "L7m00301I*" ∷ "L7]?*" ⇒ "L7]00000N*" ∷ "L7mI*" ⇒ "" ∷ []) (pos 20)
     ∷ naming "mmmm" (pos 20) ("L7m+*" ⇒ "L7m00251A*" ∷ "L7]?*" ⇒ "L7]2000251002510025100251A*" ∷ []) (pos 25)
@@ -167,4 +172,8 @@ passesScan x = answersAll timeRow (scanCard (x .names)) (scanValues (x .played .
 
 -- the reader gives number 6
 unfoldable pub isNoReply : String → Bool
-isNoReply x = not (isReply (travelling (chars x)))
+isNoReply x = six (readCall (travelling (chars x)))
+  where
+    six : Outcome Answer → Bool
+    six (refused n) = eqb n 6
+    six (gave a) = false

@@ -4,7 +4,7 @@
 -- and `run` say, by equality with `stepCall` and `runCall`. The claims here are about those calls, and about the writer's and the reader's.
 use mathlib.Core.Path.{_≡_}
 use mathlib.Core.Logic.{_↔_}
-use mathlib.Core.Bool.{true, _&&_}
+use mathlib.Core.Bool.{true, false, _&&_}
 use mathlib.Core.List.{List, [], _∷_, _++_}
 use Prim.Native.Nat.{ℕ, suc, _+_, _≤_, _<_}
 use lib.IntN.{ℤ, pos}
@@ -29,7 +29,7 @@ use Rattle.reply.specs.declared.Mark.the-variants.{Declined}
 use Rattle.reply.specs.declared.Content.the-variants.{Number}
 use Rattle.reply.specs.Reply.{longestReply, scanIdentifier, spellAnswer}
 use Rattle.reply.specs.Read.{readCall}
-use Rattle.act.specs.Act.{noNumber}
+use Rattle.act.specs.Act.{noNumber, mostNamed}
 use Rattle.act.specs.declared.Offer.{Offer}
 use Rattle.act.specs.declared.Offer.the-variants.{Nothing, Held}
 use Rattle.act.specs.declared.Said.the-variants.{Silence, Reply}
@@ -70,7 +70,7 @@ pub record Drawn (bs : List ℕ) (a : Answer) : Type 0 where
   pub sound : Sound bench maker card values
   -- the open message and the names of the scan have their room, as in every card of the code
   pub room : length (card .pending .chars) ≡ most
-  pub names-room : length (card .setup .scan) ≡ 5
+  pub names-room : length (card .setup .scan) ≡ mostNamed
   pub valid : word ≤ 256
   pub says : saidTo bench maker card values word ≡ Reply a
   pub gives : its bench maker card values word out .outcome ≡ gave (length bs)
@@ -94,15 +94,19 @@ pub record LeftBy (bench maker : List ℤ) (o : Offer) : Type 0 where
   pub number : Decimal
   pub bytes : ℕ
   pub sound : Sound bench maker card values
+  -- as in Drawn
+  pub room : length (card .pending .chars) ≡ most
+  pub names-room : length (card .setup .scan) ≡ mostNamed
   pub nothing-before : card .offer ≡ Nothing
   pub closes : hear (card .pending) word .message ≡ Heard message
   pub is-type-3 : message .body ≡ Set number
   pub gives : its bench maker card values word out .outcome ≡ gave bytes
   pub leaves : its bench maker card values word out .card .offer ≡ o
 
--- number 1: under sound sheets without a row for `]` an offer is sound exactly when a Type 3 can leave it; under any others no card is sound
+-- number 1: under sound sheets without a row for `]` an offer is sound exactly when a Type 3 can leave it; with such a row no card is sound
 pub record OfferReachable : Type 0 where
   pub reachable : (bench maker : List ℤ) → (soundSheet bench && soundSheet maker) ≡ true → noScanRow bench maker ≡ true → (i : ℕ) (z : ℤ) → (soundOffer bench maker (Held i z) ≡ true) ↔ LeftBy bench maker (Held i z)
+  pub no-card : (bench maker : List ℤ) → noScanRow bench maker ≡ false → (c : Card) (values : List ℤ) → Sound bench maker c values → ⊥
 
 -- what is offered for a number n is a multiple of the row's step, not above n, and no multiple lies between
 pub record NotAbove (n z : ℤ) (r : Row) : Type 0 where

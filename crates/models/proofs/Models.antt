@@ -91,9 +91,9 @@ module _ (bench maker : List ℤ) (b : soundSheet bench ≡ true) (m : soundShee
 isReadableScan : List ℤ → List ℕ → Bool
 isReadableScan s is = (eqb (length is) 4 || eqb (length is) 5) && every (rowTest [] s) is && every (rowTest s []) is
 
-readable-scan : (t : List (List ℤ)) (is : List ℕ) → SoundModel t → isReadableScan (sheetOf t) is ≡ true → ReadableScan t is
+scan-readable : (t : List (List ℤ)) (is : List ℕ) → SoundModel t → isReadableScan (sheetOf t) is ≡ true → ReadableScan t is
 unfolding isReadableScan
-readable-scan t is m e =
+scan-readable t is m e =
     let none : soundSheet [] ≡ true = sheet-test [] ∙ (unfold rows in refl) in record {
       four-or-five = search ands;
       readable-under-maker = rows-readable [] (sheetOf t) none (m .sheet-sound) is (search ands);
@@ -108,11 +108,11 @@ scans-computed = refl
 
 pub dcp100-controller-scan-readable : ReadableScan dcp100Controller dcp100ControllerScan
 dcp100-controller-scan-readable =
-    readable-scan dcp100Controller dcp100ControllerScan dcp100-controller-sound (let e = scans-computed in search ands)
+    scan-readable dcp100Controller dcp100ControllerScan dcp100-controller-sound (let e = scans-computed in search ands)
 
 pub dcp100-one-output-scan-readable : ReadableScan dcp100Controller dcp100OneOutputScan
 dcp100-one-output-scan-readable =
-    readable-scan dcp100Controller dcp100OneOutputScan dcp100-controller-sound (let e = scans-computed in search ands)
+    scan-readable dcp100Controller dcp100OneOutputScan dcp100-controller-sound (let e = scans-computed in search ands)
 
 pub udi1500-scan-readable : ReadableScan udi1500 udi1500Scan
-udi1500-scan-readable = readable-scan udi1500 udi1500Scan udi1500-sound (let e = scans-computed in search ands)
+udi1500-scan-readable = scan-readable udi1500 udi1500Scan udi1500-sound (let e = scans-computed in search ands)

@@ -11,9 +11,10 @@ use lib.Seq.{take-append-seam, drop-append-seam, drop-append-add}
 use Rattle.refusal.specs.Lists.{every}
 use Rattle.refusal.proofs.Logic.{and-left, and-right}
 use Rattle.number.specs.declared.Decimal.{Decimal}
-use Rattle.number.specs.Data.{withDecimals, fits, spellData, spellAll}
+use Rattle.number.specs.Data.{withDecimals, fits, spellData, readData, spellAll}
+use Rattle.number.specs.declared.Data.the-variants.{Number}
 use Rattle.number.proofs.Digits.{data-length}
-use Rattle.number.proofs.Reading.{spell-injective}
+use Rattle.number.proofs.Reading.{read-written, spell-injective}
 
 pub all-length : (xs : List Decimal) → length (spellAll xs) ≡ 5 * length xs
 unfolding spellAll
@@ -40,13 +41,23 @@ below-none : (j : ℕ) → j < 0 → ⊥
 below-none j h = omega arith
 
 -- the characters of each, whatever stands behind all of them
-pub each-data : (xs : List Decimal) (j : ℕ) (cs : List ℕ) → j < length xs → take 5 (drop (5 * j) (spellAll xs ++ cs)) ≡ spellData (nth xs j)
+each-data : (xs : List Decimal) (j : ℕ) (cs : List ℕ) → j < length xs → take 5 (drop (5 * j) (spellAll xs ++ cs)) ≡ spellData (nth xs j)
 unfolding spellAll
 each-data [] j cs h = absurd (below-none j h)
 each-data (x ∷ xs) zero cs h = rw append-assoc (first-data x (spellAll xs ++ cs) .0)
 each-data (x ∷ xs) (suc j) cs h =
     let n : 5 * suc j ≡ length (spellData x) + 5 * j = omega (arith, data-length x) in
     rw (append-assoc, n, drop-append-add) (each-data xs j cs (omega arith))
+
+every-nth : (xs : List Decimal) (j : ℕ) → every fits xs ≡ true → j < length xs → fits (nth xs j) ≡ true
+unfolding every
+every-nth [] j e h = absurd (below-none j h)
+every-nth (x ∷ xs) zero e h = and-left (fits x) (every fits xs) e
+every-nth (x ∷ xs) (suc j) e h = every-nth xs j (and-right (fits x) (every fits xs) e) (omega arith)
+
+-- each is read back from its place
+pub each-read : (xs : List Decimal) (j : ℕ) (cs : List ℕ) → every fits xs ≡ true → j < length xs → readData (take 5 (drop (5 * j) (spellAll xs ++ cs))) ≡ Number (nth xs j)
+each-read xs j cs e h = ap readData (each-data xs j cs h) ∙ read-written (nth xs j) (every-nth xs j e h)
 
 none-some : (x : Decimal) (xs : List Decimal) → spellAll [] ≡ spellAll (x ∷ xs) → ⊥
 unfolding spellAll

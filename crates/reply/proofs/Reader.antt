@@ -28,7 +28,7 @@ use Rattle.number.specs.declared.Data.the-variants as read
 use Rattle.number.specs.Data.{withDecimals, digit, isDigit, digitOf, fits, spellData, readData, spellAll}
 use Rattle.number.proofs.Digits.{digit-is, digit-back, data-length, data-digits}
 use Rattle.number.proofs.Reading.{read-written, read-length}
-use Rattle.number.proofs.Several.{all-length, first-data, nth, each-data}
+use Rattle.number.proofs.Several.{all-length, first-data, nth, each-read}
 use Rattle.message.specs.Message.{star, question, isLetter, isAddress, isIdentifier}
 use Rattle.message.specs.Spell.{spellAddress}
 use Rattle.message.proofs.Messages.{address-most, identifier-no-digit, plain-letter, plain-identifier}
@@ -39,8 +39,8 @@ use Rattle.reply.specs.declared.Mark.the-variants as mark
 use Rattle.reply.specs.declared.Content.{Content}
 use Rattle.reply.specs.declared.Content.the-variants.{Empty, Number, Four, Five}
 use Rattle.reply.specs.declared.Answer.{Answer}
-use Rattle.reply.specs.Reply.{scanIdentifier, markOf, spellScan, spellContent, spellAnswer, isNone, fitsContent, isAnswer}
-use Rattle.reply.specs.Read.{charactersOf, guessMark, decimalOf, numberAt, guessContent, guessBehind, guess, isReply, readCall}
+use Rattle.reply.specs.Reply.{scanIdentifier, markOf, spellScan, spellContent, spellAnswer, isNoNumber, fitsContent, isAnswer}
+use Rattle.reply.specs.Read.{charactersOf, guessMark, readOrZero, decimalAt, guessContent, guessBehind, guess, isReply, readCall}
 
 -- ---- an answer by its parts
 
@@ -77,7 +77,7 @@ content-status i e = e
 pub record NumberContent (i : ℕ) (k : Mark) (x : Decimal) : Type 0 where
   pub no-status : eqb i question ≡ false
   pub fit : fits x ≡ true
-  pub no-scan : (not (eqb i scanIdentifier) || (eqb (markOf k) (code "N") && isNone x)) ≡ true
+  pub no-scan : (not (eqb i scanIdentifier) || (eqb (markOf k) (code "N") && isNoNumber x)) ≡ true
 
 pub number-content : (i : ℕ) (k : Mark) (x : Decimal) → fitsContent i k (Number x) ≡ true → NumberContent i k x
 unfolding fitsContent
@@ -93,9 +93,9 @@ declined mark.Offered e = absurd (false≢true e)
 declined mark.Declined e = refl
 
 pub none-content : (i : ℕ) (k : Mark) (x : Decimal) → eqb i scanIdentifier ≡ true → NumberContent i k x → (k ≡ mark.Declined) × (x ≡ withDecimals (pos 0) 0)
-unfolding isNone
+unfolding isNoNumber
 none-content i k x e n =
-    let t : (eqb (markOf k) (code "N") && isNone x) ≡ true = rw e at (n .no-scan) in
+    let t : (eqb (markOf k) (code "N") && isNoNumber x) ≡ true = rw e at (n .no-scan) in
     (declined k (search ands), ap₂ withDecimals (nothing (x .number) (search ands)) (eqb-true (x .decimals) 0 (search ands)))
   where
     nothing : (z : ℤ) → eqb (natAbs z) 0 ≡ true → z ≡ pos 0
@@ -182,9 +182,9 @@ before-last xs m s =
     ap (λ (k : ℕ). getD (xs ++ (m ∷ s ∷ [])) k 0) n ∙ getD-append-add xs (m ∷ s ∷ []) 0 0
 
 -- a number that stands from a place on
-number-back : (cs : List ℕ) (k : ℕ) (x : Decimal) → fits x ≡ true → take 5 (drop k cs) ≡ spellData x → numberAt cs k ≡ x
-unfolding numberAt decimalOf
-number-back cs k x h e = ap (λ (ds : List ℕ). decimalOf (readData ds)) e ∙ ap decimalOf (read-written x h)
+number-back : (cs : List ℕ) (k : ℕ) (x : Decimal) → fits x ≡ true → take 5 (drop k cs) ≡ spellData x → decimalAt cs k ≡ x
+unfolding decimalAt readOrZero
+number-back cs k x h e = ap (λ (ds : List ℕ). readOrZero (readData ds)) e ∙ ap readOrZero (read-written x h)
 
 one-digit : (l a i : ℕ) (xs : List ℕ) → isIdentifier i ≡ true → guess (l ∷ digit a ∷ i ∷ xs) ≡ guessBehind l a (i ∷ xs)
 unfolding guess
@@ -204,21 +204,12 @@ scan-no-status i e = ne-eqb i question (λ q. let z = eqb-true i scanIdentifier 
     apart : question ≡ scanIdentifier → ⊥
     apart z = omega arith
 
--- each of a list that all pass the test
-every-nth : (xs : List Decimal) (j : ℕ) → every fits xs ≡ true → j < length xs → fits (nth xs j) ≡ true
-unfolding every
-every-nth [] j e h = absurd (none j h)
-  where
-    none : (j : ℕ) → j < 0 → ⊥
-    none j h = omega arith
-every-nth (x ∷ xs) zero e h = and-left (fits x) (every fits xs) e
-every-nth (x ∷ xs) (suc j) e h = every-nth xs j (and-right (fits x) (every fits xs) e) (omega arith)
-
 -- the values of a scan, each in its place behind the identifier and the count of digits
-each-back : (i x y : ℕ) (xs : List Decimal) (rest : List ℕ) (j : ℕ) → every fits xs ≡ true → j < length xs → numberAt (i ∷ x ∷ y ∷ (spellAll xs ++ rest)) (3 + 5 * j) ≡ nth xs j
+each-back : (i x y : ℕ) (xs : List Decimal) (rest : List ℕ) (j : ℕ) → every fits xs ≡ true → j < length xs → decimalAt (i ∷ x ∷ y ∷ (spellAll xs ++ rest)) (3 + 5 * j) ≡ nth xs j
+unfolding decimalAt readOrZero
 each-back i x y xs rest j e h =
-    number-back (i ∷ x ∷ y ∷ (spellAll xs ++ rest)) (3 + 5 * j) (nth xs j) (every-nth xs j e h)
-    (ap (take 5) (sym (drop-drop (5 * j) 3 (i ∷ x ∷ y ∷ (spellAll xs ++ rest)))) ∙ each-data xs j rest h)
+    ap (λ (ds : List ℕ). readOrZero (readData (take 5 ds))) (sym (drop-drop (5 * j) 3 (i ∷ x ∷ y ∷ (spellAll xs ++ rest))))
+    ∙ ap readOrZero (each-read xs j rest e h)
 
 -- from the identifier on
 content-back : (i : ℕ) (rest : List ℕ) (k : Mark) (y : Content) → fitsContent i k y ≡ true → length rest ≡ 2 → cond (eqb i question) Empty (guessContent (i ∷ (spellContent y ++ rest))) ≡ y
@@ -310,11 +301,11 @@ unfolding charactersOf
 characters-long bs = length-map bs (λ (b : ℕ). b % 128)
 
 -- fewer than five characters are no number
-pub number-short : (cs : List ℕ) (k : ℕ) → length cs < k + 5 → numberAt cs k ≡ withDecimals (pos 0) 0
-unfolding numberAt decimalOf
+pub number-short : (cs : List ℕ) (k : ℕ) → length cs < k + 5 → decimalAt cs k ≡ withDecimals (pos 0) 0
+unfolding decimalAt readOrZero
 number-short cs k h = go (readData (take 5 (drop k cs))) refl
   where
-    go : (x : Data) → readData (take 5 (drop k cs)) ≡ x → decimalOf x ≡ withDecimals (pos 0) 0
+    go : (x : Data) → readData (take 5 (drop k cs)) ≡ x → readOrZero x ≡ withDecimals (pos 0) 0
     go (Partial n v) e = refl
     go (read.Number x) e = absurd (omega (arith, read-length (take 5 (drop k cs)) x e, length-take 5 (drop k cs), length-drop k cs))
     go Invalid e = refl
@@ -331,9 +322,9 @@ five-at cs k h =
     its i h = character-behind cs k i ∙ sym (getD-take 5 (drop k cs) i 0 h)
 
 -- a number from k on, by its place among all characters
-number-behind : (cs : List ℕ) (k j : ℕ) → numberAt cs (k + j) ≡ numberAt (drop k cs) j
-unfolding numberAt
-number-behind cs k j = sym (ap (λ (l : List ℕ). decimalOf (readData (take 5 l))) (drop-drop j k cs))
+number-behind : (cs : List ℕ) (k j : ℕ) → decimalAt cs (k + j) ≡ decimalAt (drop k cs) j
+unfolding decimalAt
+number-behind cs k j = sym (ap (λ (l : List ℕ). readOrZero (readData (take 5 l))) (drop-drop j k cs))
 
 -- the numbers that the code has read, by how many characters there are
 module _ (bs : List ℕ) (k : ℕ) where
@@ -346,20 +337,20 @@ module _ (bs : List ℕ) (k : ℕ) where
   many : (n : ℕ) → 0 < n → length bs ≡ k + n → length its ≡ n
   many n z e = omega (arith, length-drop k all, characters-long bs)
 
-  module _ {a b c d : Decimal} (ea : a ≡ numberAt all (k + 3)) (eb : b ≡ numberAt all (k + 8)) (ec : c ≡ numberAt all (k + 13)) (ed : d ≡ numberAt all (k + 18)) where
+  module _ {a b c d : Decimal} (ea : a ≡ decimalAt all (k + 3)) (eb : b ≡ decimalAt all (k + 8)) (ec : c ≡ decimalAt all (k + 13)) (ed : d ≡ decimalAt all (k + 18)) where
     pub guess-four : length bs ≡ k + 25 → Four a b c d ≡ guessContent its
     unfolding guessContent
     guess-four e =
         rw (many 25 (lit< tt) e)
         (λ j. Four ((ea ∙ number-behind all k 3) j) ((eb ∙ number-behind all k 8) j) ((ec ∙ number-behind all k 13) j) ((ed ∙ number-behind all k 18) j))
 
-    pub guess-five : {f : Decimal} → f ≡ numberAt all (k + 23) → length bs ≡ k + 30 → Five a b c d f ≡ guessContent its
+    pub guess-five : {f : Decimal} → f ≡ decimalAt all (k + 23) → length bs ≡ k + 30 → Five a b c d f ≡ guessContent its
     unfolding guessContent
     guess-five ef e =
         rw (many 30 (lit< tt) e)
         (λ j. Five ((ea ∙ number-behind all k 3) j) ((eb ∙ number-behind all k 8) j) ((ec ∙ number-behind all k 13) j) ((ed ∙ number-behind all k 18) j) ((ef ∙ number-behind all k 23) j))
 
-  pub guess-number : {a : Decimal} → a ≡ numberAt all (k + 1) → (length bs ≡ k + 25 → ⊥) → (length bs ≡ k + 30 → ⊥) → Number a ≡ guessContent its
+  pub guess-number : {a : Decimal} → a ≡ decimalAt all (k + 1) → (length bs ≡ k + 25 → ⊥) → (length bs ≡ k + 30 → ⊥) → Number a ≡ guessContent its
   unfolding guessContent
   guess-number ea f g =
       rw (ne-eqb (length its) 25 (λ e. f (long 24 e)), ne-eqb (length its) 30 (λ e. g (long 29 e))) (ap Number (ea ∙ number-behind all k 1))

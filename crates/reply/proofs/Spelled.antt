@@ -145,13 +145,6 @@ stands-as {at = at} {next = next} {out = out} {out′ = out′} e s = subst (λ 
 pub stands-at : {xs : List ℕ} {p q next : ℕ} {out out′ : List ℕ} → p ≡ q → Stands xs p out next out′ → Stands xs q out next out′
 stands-at {xs} {next = next} {out = out} {out′ = out′} e s = subst (λ (k : ℕ). Stands xs k out next out′) e s
 
--- there is room behind them
-pub stands-in : {xs : List ℕ} {at next : ℕ} {out out′ : List ℕ} → at + length xs ≤ length out → Stands xs at out next out′ → (next ≤ length out′) × (length out′ ≡ length out)
-stands-in {xs} {at} {next} {out} h s =
-    let n = travelling-length xs in
-    let l = ap length (s .leaves) ∙ placed-length (travelling xs) at out (omega arith) in
-    (omega (arith, s .ends, l), l)
-
 -- ---- into an array that has room for every reply
 
 pub record Spelt (a : Answer) (r : Written) (array : List ℕ) : Type 0 where

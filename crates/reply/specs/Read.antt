@@ -35,20 +35,20 @@ unfoldable pub guessMark : ℕ → Mark
 guessMark c = cond (eqb c (code "A")) mark.Accepted (cond (eqb c (code "I")) mark.Offered mark.Declined)
 
 -- a number as it was read; 0 where it was none, which is then spelled otherwise
-unfoldable pub decimalOf : Data → Decimal
-decimalOf (read.Partial k n) = withDecimals (pos 0) 0
-decimalOf (read.Number x) = x
-decimalOf read.Invalid = withDecimals (pos 0) 0
+unfoldable pub readOrZero : Data → Decimal
+readOrZero (read.Partial k n) = withDecimals (pos 0) 0
+readOrZero (read.Number x) = x
+readOrZero read.Invalid = withDecimals (pos 0) 0
 
 -- the number that stands from a place on
-unfoldable pub numberAt : List ℕ → ℕ → Decimal
-numberAt cs k = decimalOf (readData (take 5 (drop k cs)))
+unfoldable pub decimalAt : List ℕ → ℕ → Decimal
+decimalAt cs k = readOrZero (readData (take 5 (drop k cs)))
 
 -- by how many characters there are from the identifier on: four numbers, five, or one
 unfoldable pub guessContent : List ℕ → Content
 guessContent cs =
-    cond (eqb (length cs) 25) (Four (numberAt cs 3) (numberAt cs 8) (numberAt cs 13) (numberAt cs 18))
-    (cond (eqb (length cs) 30) (Five (numberAt cs 3) (numberAt cs 8) (numberAt cs 13) (numberAt cs 18) (numberAt cs 23)) (Number (numberAt cs 1)))
+    cond (eqb (length cs) 25) (Four (decimalAt cs 3) (decimalAt cs 8) (decimalAt cs 13) (decimalAt cs 18))
+    (cond (eqb (length cs) 30) (Five (decimalAt cs 3) (decimalAt cs 8) (decimalAt cs 13) (decimalAt cs 18) (decimalAt cs 23)) (Number (decimalAt cs 1)))
 
 -- the letter, the address, and the characters from the identifier on; the mark stands before the last
 unfoldable pub guessBehind : ℕ → ℕ → List ℕ → Answer

@@ -32,7 +32,7 @@ markOf Offered = code "I"
 markOf Declined = code "N"
 
 -- the numbers that a reply carries, in order
-unfoldable pub numbersIn : Content → List Decimal
+abbrev pub numbersIn : Content → List Decimal
 numbersIn Empty = []
 numbersIn (Number x) = x ∷ []
 numbersIn (Four a b c d) = a ∷ b ∷ c ∷ d ∷ []
@@ -46,8 +46,8 @@ spellScan xs = digit (5 * length xs / 10) ∷ digit (5 * length xs % 10) ∷ spe
 unfoldable pub spellContent : Content → List ℕ
 spellContent Empty = []
 spellContent (Number x) = spellData x
-spellContent (Four a b c d) = spellScan (a ∷ b ∷ c ∷ d ∷ [])
-spellContent (Five a b c d e) = spellScan (a ∷ b ∷ c ∷ d ∷ e ∷ [])
+spellContent (Four a b c d) = spellScan (numbersIn (Four a b c d))
+spellContent (Five a b c d e) = spellScan (numbersIn (Five a b c d e))
 
 -- document 01: "Replies spell the address without a leading zero"
 unfoldable pub spellAnswer : Answer → List ℕ
@@ -55,16 +55,16 @@ spellAnswer a =
     a .letter ∷ (spellAddress (a .address) ++ (a .identifier ∷ (spellContent (a .content) ++ (markOf (a .mark) ∷ star ∷ []))))
 
 -- `00000`
-unfoldable pub isNone : Decimal → Bool
-isNone x = eqb (natAbs (x .number)) 0 && eqb (x .decimals) 0
+unfoldable pub isNoNumber : Decimal → Bool
+isNoNumber x = eqb (natAbs (x .number)) 0 && eqb (x .decimals) 0
 
 -- document 01, number 6: "`?` has `A` and no data, any other identifier has data". Document 02, ticket 1: `]` has the values of the scan and
 -- `A`; "Otherwise a Type 2 or 3 on `]` is `N` with `00000`".
 unfoldable pub fitsContent : ℕ → Mark → Content → Bool
 fitsContent i k Empty = eqb (markOf k) (code "A") && eqb i question
-fitsContent i k (Number x) = not (eqb i question) && fits x && (not (eqb i scanIdentifier) || (eqb (markOf k) (code "N") && isNone x))
-fitsContent i k (Four a b c d) = eqb (markOf k) (code "A") && eqb i scanIdentifier && every fits (a ∷ b ∷ c ∷ d ∷ [])
-fitsContent i k (Five a b c d e) = eqb (markOf k) (code "A") && eqb i scanIdentifier && every fits (a ∷ b ∷ c ∷ d ∷ e ∷ [])
+fitsContent i k (Number x) = not (eqb i question) && fits x && (not (eqb i scanIdentifier) || (eqb (markOf k) (code "N") && isNoNumber x))
+fitsContent i k (Four a b c d) = eqb (markOf k) (code "A") && eqb i scanIdentifier && every fits (numbersIn (Four a b c d))
+fitsContent i k (Five a b c d e) = eqb (markOf k) (code "A") && eqb i scanIdentifier && every fits (numbersIn (Five a b c d e))
 
 -- an answer that some card gives
 unfoldable pub isAnswer : Answer → Bool

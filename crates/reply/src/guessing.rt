@@ -3,7 +3,7 @@ ghost use mathlib.Core.Path.{_≡_};
 ghost use Prim.Native.Nat.{_-_, _≤_};
 ghost use lib.ListN.{length, getD, drop};
 ghost use Rattle.number.specs.Data.{digitOf};
-ghost use Rattle.reply.specs.Read.{charactersOf, guessMark, decimalOf, numberAt, guessContent, guessBehind, guess};
+ghost use Rattle.reply.specs.Read.{charactersOf, guessMark, readOrZero, decimalAt, guessContent, guessBehind, guess};
 use crate::Answer;
 use crate::Content;
 use crate::Mark;
@@ -36,8 +36,8 @@ fn guess_mark(c: u8) -> Mark
 }
 
 // A number as it was read.
-fn decimal_of(read: Data) -> Decimal
-    ensures { λ r. ⌜ r ≡ decimalOf read ⌝ }
+fn read_or_zero(read: Data) -> Decimal
+    ensures { λ r. ⌜ r ≡ readOrZero read ⌝ }
 {
     match read {
         Data::Partial { count: _, value: _ } => Decimal {
@@ -53,9 +53,9 @@ fn decimal_of(read: Data) -> Decimal
 }
 
 // The number that stands from a place on.
-fn number_at(bytes: &[u8], k: usize) -> Decimal
+fn decimal_at(bytes: &[u8], k: usize) -> Decimal
     requires { ⌜ k ≤ 26 ⌝ }
-    ensures { λ r. ⌜ r ≡ numberAt (charactersOf (now (bytes .entry))) k ⌝ }
+    ensures { λ r. ⌜ r ≡ decimalAt (charactersOf (now (bytes .entry))) k ⌝ }
 {
     if bytes.len() < k + 5 {
         return Decimal {
@@ -68,7 +68,7 @@ fn number_at(bytes: &[u8], k: usize) -> Decimal
     let c = character_at(bytes, k + 2);
     let d = character_at(bytes, k + 3);
     let e = character_at(bytes, k + 4);
-    decimal_of(number::read_data([a, b, c, d, e]))
+    read_or_zero(number::read_data([a, b, c, d, e]))
 }
 
 // The identifier stands at k: four numbers, five, or one, by how many characters there are.
@@ -77,21 +77,21 @@ fn guess_content(bytes: &[u8], k: usize) -> Content
     ensures { λ r. ⌜ r ≡ guessContent (drop k (charactersOf (now (bytes .entry)))) ⌝ }
 {
     if bytes.len() == k + 25 {
-        let a = number_at(bytes, k + 3);
-        let b = number_at(bytes, k + 8);
-        let c = number_at(bytes, k + 13);
-        let d = number_at(bytes, k + 18);
+        let a = decimal_at(bytes, k + 3);
+        let b = decimal_at(bytes, k + 8);
+        let c = decimal_at(bytes, k + 13);
+        let d = decimal_at(bytes, k + 18);
         return Content::Four(a, b, c, d);
     }
     if bytes.len() == k + 30 {
-        let a = number_at(bytes, k + 3);
-        let b = number_at(bytes, k + 8);
-        let c = number_at(bytes, k + 13);
-        let d = number_at(bytes, k + 18);
-        let e = number_at(bytes, k + 23);
+        let a = decimal_at(bytes, k + 3);
+        let b = decimal_at(bytes, k + 8);
+        let c = decimal_at(bytes, k + 13);
+        let d = decimal_at(bytes, k + 18);
+        let e = decimal_at(bytes, k + 23);
         return Content::Five(a, b, c, d, e);
     }
-    Content::Number(number_at(bytes, k + 1))
+    Content::Number(decimal_at(bytes, k + 1))
 }
 
 // The character before the last, from k on.

@@ -9,7 +9,7 @@ ghost use Rattle.refusal.specs.Buffer.{placed};
 ghost use Rattle.refusal.specs.Call.{callOf, placeCall};
 ghost use Rattle.wire.specs.Word.{travelling};
 ghost use Rattle.number.specs.Data.{fits, spellData, spellAll};
-ghost use Rattle.reply.specs.Reply.{markOf, spellContent, spellAnswer, isNone, fitsContent, isAnswer};
+ghost use Rattle.reply.specs.Reply.{markOf, spellContent, spellAnswer, isNoNumber, fitsContent, isAnswer};
 ghost use Rattle.reply.specs.Inner.{spellFront};
 ghost use Rattle.reply.specs.Read.{readCall, outcomeOf};
 use number::Decimal;
@@ -20,6 +20,9 @@ mod guessing;
 
 // The longest reply has this many bytes, `*` included.
 pub const LONGEST_REPLY: usize = 33;
+
+// The identifier of the scan.
+pub const SCAN: u8 = b']';
 
 // `A`, `I` and `N`.
 pub enum Mark {
@@ -180,6 +183,7 @@ pub fn place(answer: Answer, out: &mut [u8], at: usize) -> Written
     }
     let given = answer.mark;
     let content = answer.content;
+    // The mark and `*` come before the content, which costs less than behind a choice of contents.
     let data = place_front(answer.letter, answer.address, answer.identifier, out, at);
     place_two(mark_of(given), b'*', out, at + n - 2);
     place_content(content, out, data);
@@ -187,8 +191,8 @@ pub fn place(answer: Answer, out: &mut [u8], at: usize) -> Written
 }
 
 // `00000`.
-fn is_none(x: Decimal) -> bool
-    ensures { λ r. ⌜ r ≡ isNone x ⌝ }
+fn is_no_number(x: Decimal) -> bool
+    ensures { λ r. ⌜ r ≡ isNoNumber x ⌝ }
 {
     (number::magnitude(x.number) == 0) & (x.decimals == 0)
 }
@@ -208,11 +212,11 @@ fn fits_content(identifier: u8, mark: Mark, content: Content) -> bool
         Content::Number(x) => {
             (identifier != b'?')
                 & number::fits(x)
-                & ((identifier != b']') | ((m == b'N') & is_none(x)))
+                & ((identifier != SCAN) | ((m == b'N') & is_no_number(x)))
         }
-        Content::Four(a, b, c, d) => (m == b'A') & (identifier == b']') & fits_four(a, b, c, d),
+        Content::Four(a, b, c, d) => (m == b'A') & (identifier == SCAN) & fits_four(a, b, c, d),
         Content::Five(a, b, c, d, e) => {
-            (m == b'A') & (identifier == b']') & (number::fits(a) & fits_four(b, c, d, e))
+            (m == b'A') & (identifier == SCAN) & (number::fits(a) & fits_four(b, c, d, e))
         }
     }
 }

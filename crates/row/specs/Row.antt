@@ -13,6 +13,7 @@ use Rattle.sheet.specs.Sheet.{at}
 use Rattle.hearing.specs.declared.Pending.{Pending}
 use Rattle.hearing.specs.Hearing.{most, openOf}
 use Rattle.act.specs.declared.Setup.{Setup}
+use Rattle.act.specs.Act.{mostNamed}
 use Rattle.act.specs.declared.Offer.{Offer}
 use Rattle.act.specs.declared.Offer.the-variants.{Nothing, Held}
 use Rattle.card.specs.declared.Card.{Card}
@@ -23,7 +24,7 @@ use Rattle.card.specs.declared.Card.{Card}
 unfoldable pub isByte : ℤ → Bool
 isByte z = inRange (pos 0) z (pos 255)
 
--- that byte; another where there is none
+-- that byte, or `none` where the number is no byte
 unfoldable pub byteOr : ℕ → ℤ → ℕ
 byteOr none z = cond (isByte z) (natAbs z) none
 
@@ -39,10 +40,11 @@ unfoldable pub bytesIn : ℕ → List ℤ → List ℕ
 bytesIn zero zs = []
 bytesIn (suc n) zs = byteOf (at zs 0) ∷ bytesIn n (drop 1 zs)
 
--- a count that is no byte is 255, and an identifier that is none 0, which no sound card names: number 1 in its second place
+-- a count that is no byte is 255, and an identifier that is no byte is 0: no sound card counts so many or names that one, so it is number 1
+-- in its second place. What stands behind the count may be anything.
 unfoldable pub setupOf : List ℤ → Setup
 setupOf row =
-    record { letter = byteOf (at row 0); address = byteOf (at row 1); count = byteOr 255 (at row 16); scan = bytesIn 5 (drop 17 row) }
+    record { letter = byteOf (at row 0); address = byteOf (at row 1); count = byteOr 255 (at row 16); scan = bytesIn mostNamed (drop 17 row) }
 
 unfoldable pub pendingOf : List ℤ → Pending
 pendingOf row = record { chars = bytesIn most (drop 3 row); len = byteOf (at row 2) }

@@ -10,6 +10,7 @@ ghost use Rattle.refusal.specs.Lists.{every};
 ghost use Rattle.refusal.specs.Buffer.{placed};
 ghost use Rattle.sheet.specs.Sheet.{at as numberAt};
 ghost use Rattle.hearing.specs.Hearing.{most, openOf};
+ghost use Rattle.act.specs.Act.{mostNamed};
 ghost use Rattle.row.specs.Row.{isByte, byteOr, byteOf, isRow, bytesIn, setupOf, pendingOf, offerOf, cardOf, pendingRow, offerRow, storedIn};
 use act::Offer;
 use act::Setup;
@@ -19,8 +20,8 @@ use hearing::Pending;
 // The numbers of a row.
 pub const LENGTH: usize = 22;
 
-// Words change the numbers from 2 to the one before this.
-const UNCHANGING: usize = 16;
+// Words change the numbers from 2 up to this.
+const CHANGING_END: usize = 16;
 
 // ---- from numbers to a card
 
@@ -75,8 +76,8 @@ fn byte_at(row: &[i32], k: usize) -> u8
 }
 
 // The five identifiers of the scan, named or not.
-fn scan_of(row: &[i32]) -> [u8; act::MOST_NAMED]
-    ensures { λ r. ⌜ r ≡ bytesIn 5 (drop 17 (now (row .entry))) ⌝ }
+fn names_of(row: &[i32]) -> [u8; act::MOST_NAMED]
+    ensures { λ r. ⌜ r ≡ bytesIn mostNamed (drop 17 (now (row .entry))) ⌝ }
 {
     let first = byte_at(row, 17);
     let second = byte_at(row, 18);
@@ -92,7 +93,7 @@ fn setup_of(row: &[i32]) -> Setup
     let letter = byte_at(row, 0);
     let address = byte_at(row, 1);
     let count = byte_or(255, number_at(row, 16));
-    let scan = scan_of(row);
+    let scan = names_of(row);
     Setup {
         letter,
         address,
@@ -214,7 +215,7 @@ fn put_offer(offer: Offer, row: &mut [i32])
 pub fn store(card: Card, row: &mut [i32])
     ensures { λ _. ⌜ now (row .exit) ≡ storedIn card (now (row .entry)) ⌝ }
 {
-    if row.len() < UNCHANGING {
+    if row.len() < CHANGING_END {
         return;
     }
     let pending = card.pending;

@@ -12,7 +12,7 @@ use super::{listing, normal, reply, sheet, Refusal};
 /// Letter, address, count of open characters, ten characters, offer or none, its identifier, its
 /// value, count of the scan's identifiers, five identifiers.
 pub const CARD: usize = 22;
-/// Letter, address, identifier, outcome, count of numbers, five times a number and its decimals.
+/// Letter, address, identifier, outcome, count of numbers, five pairs of a number and its decimals.
 pub const ANSWER: usize = 15;
 
 /// What the boundary's reader gives back when it isn't refused: the count of numbers written.

@@ -3,7 +3,7 @@
 use super::card::LONGEST_REPLY;
 use super::message::{is_identifier, is_letter, parse_data, Data};
 use super::parity::is_good;
-use super::scan::{digits_of, is_full, MOST_NAMED, SCAN};
+use super::scan::{digits_of, is_scan_count, MOST_NAMED, SCAN};
 use super::Refusal;
 
 /// What a reply says.
@@ -74,7 +74,7 @@ fn parse_scan(digits: &[u8], outcome: u8) -> Option<(usize, [Data; MOST_NAMED])>
     }
     let (said, digits) = digits.split_first_chunk::<2>()?;
     let (groups, rest) = digits.as_chunks::<5>();
-    if !rest.is_empty() || !is_full(groups.len()) || *said != digits_of(groups.len()) {
+    if !rest.is_empty() || !is_scan_count(groups.len()) || *said != digits_of(groups.len()) {
         return None;
     }
     for (number, group) in numbers.iter_mut().zip(groups) {

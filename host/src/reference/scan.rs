@@ -19,7 +19,7 @@ pub struct Scan {
 
 /// Whether a scan's reply can have so many values.
 #[inline]
-pub(super) const fn is_full(values: usize) -> bool {
+pub(super) const fn is_scan_count(values: usize) -> bool {
     matches!(values, 4 | 5)
 }
 
@@ -49,7 +49,7 @@ impl Scan {
     #[inline]
     pub fn is_sound(&self, rows: &Rows) -> bool {
         let can_be_read = |&identifier: &u8| rows.get(identifier).is_some_and(|row| row.can_be_read());
-        (self.is_none() || is_full(usize::from(self.count)))
+        (self.is_none() || is_scan_count(usize::from(self.count)))
             && self.named().iter().all(can_be_read)
             && rows.get(SCAN).is_none()
     }

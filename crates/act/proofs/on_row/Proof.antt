@@ -5,16 +5,16 @@ use borrow.Author.Tests.{not-true, not-false}
 use lib.IntN.{ℤ}
 use Rattle.number.proofs.Signed.{rd-ok}
 use Rattle.sheet.specs.declared.Entry.{Entry}
-use Rattle.act.specs.Act.{serve, addressed}
+use Rattle.act.specs.Act.{serve, addressed, onRow}
 use Rattle.act.proofs.on_row.Statement.{statement}
 use Rattle.act.proofs.on_row.Tie as tie
 
 returns : tie.Need-returns
-unfolding addressed
+unfolding onRow addressed
 returns c = c .silent .ensures ∙ sym (rw (sym (c .before .before .is-for .ensures) ∙ not-true _ (c .before .if1 .taken)))
 
 returns-2 : tie.Need-returns-2
-unfolding addressed
+unfolding onRow addressed
 returns-2 c =
     let v = c .before in
     let t = v .before .before in

@@ -2,16 +2,16 @@
 use mathlib.Core.Path.{sym, _∙_}
 use borrow.Author.Needs.{needs}
 use borrow.Author.Tests.{not-true, not-false}
-use Rattle.act.specs.Act.{addressed}
+use Rattle.act.specs.Act.{addressed, onScan}
 use Rattle.act.proofs.on_scan.Statement.{statement}
 use Rattle.act.proofs.on_scan.Tie as tie
 
 returns : tie.Need-returns
-unfolding addressed
+unfolding onScan addressed
 returns c = c .silent .ensures ∙ sym (rw (sym (c .before .before .is-for .ensures) ∙ not-true _ (c .before .if1 .taken)))
 
 returns-2 : tie.Need-returns-2
-unfolding addressed
+unfolding onScan addressed
 returns-2 c =
     let t = c .before in
     c .serve-scan .ensures ∙ sym (rw (sym (t .before .is-for .ensures) ∙ not-false _ (t .if1 .left)))

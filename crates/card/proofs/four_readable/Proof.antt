@@ -16,7 +16,7 @@ returns c =
     let n = c .before in
     let m = n .before in
     let f = m .before in
-    rw (f .is-readable .ensures, m .is-readable2 .ensures, n .is-readable3 .ensures, c .is-readable4 .ensures) (sym (rw and-true))
+    rw (f .has-readable-row .ensures, m .has-readable-row2 .ensures, n .has-readable-row3 .ensures, c .has-readable-row4 .ensures) (sym (rw and-true))
 
 pub four-readable-spec : {M : Type 1} → statement M
 four-readable-spec = tie.close (tie.spec (λ c κs. search needs) (λ c κs. search needs) (λ c κs. search needs) (λ c κs. search needs) returns)

@@ -47,7 +47,7 @@ returns-5 c =
     let g = r .before in
     let f = g .before .before in
     let e = f .before .before in
-    ap₂ (λ (x y : Bool). x && y) (r .is-readable .ensures) (c .four-readable2 .ensures) ∙ sym (rw (none (e .before .before .before), g .if4 .left))
+    ap₂ (λ (x y : Bool). x && y) (r .has-readable-row .ensures) (c .four-readable2 .ensures) ∙ sym (rw (none (e .before .before .before), g .if4 .left))
 
 pub sound-scan-spec : {M : Type 1} → statement M
 sound-scan-spec = tie.close (tie.spec

@@ -14,7 +14,7 @@ unfolding fitsContent
 returns-2 c =
     let f = c .before in
     let k = f .before .before in
-    rw (k .before .before .mark-of .ensures, f .fits2 .ensures, c .is-none .ensures) (rw (k .content .given .1))
+    rw (k .before .before .mark-of .ensures, f .fits2 .ensures, c .is-no-number .ensures) (rw (k .content .given .1))
 
 returns-3 : tie.Need-returns-3
 unfolding fitsContent

@@ -13,7 +13,7 @@ returns c =
     let n = b .before in
     let a = n .before in
     let count = b .byte-or .ensures ∙ ap (byteOr 255) (rd-ok (n .number-at .result) (n .number-at .ok) ∙ n .number-at .ensures) in
-    simp (a .before .byte-at .ensures, a .byte-at2 .ensures, count, c .scan-of .ensures)
+    simp (a .before .byte-at .ensures, a .byte-at2 .ensures, count, c .names-of .ensures)
 
 pub setup-of-spec : {M : Type 1} → statement M
 setup-of-spec = tie.close (tie.spec

@@ -10,7 +10,7 @@ returns c =
     let m = n .before in
     let f = m .before in
     let a = f .before .before .before .args in
-    guess-four (a .bytes .now) (a .k) (f .number-at .ensures) (m .number-at2 .ensures) (n .number-at3 .ensures) (c .number-at4 .ensures) (f .before .if1 .taken)
+    guess-four (a .bytes .now) (a .k) (f .decimal-at .ensures) (m .decimal-at2 .ensures) (n .decimal-at3 .ensures) (c .decimal-at4 .ensures) (f .before .if1 .taken)
 
 returns-2 : tie.Need-returns-2
 returns-2 c =
@@ -19,13 +19,13 @@ returns-2 c =
     let m = n .before in
     let f = m .before in
     let a = f .before .before .before .before .args in
-    guess-five (a .bytes .now) (a .k) (f .number-at5 .ensures) (m .number-at6 .ensures) (n .number-at7 .ensures) (o .number-at8 .ensures) (c .number-at9 .ensures) (f .before .if2 .taken)
+    guess-five (a .bytes .now) (a .k) (f .decimal-at5 .ensures) (m .decimal-at6 .ensures) (n .decimal-at7 .ensures) (o .decimal-at8 .ensures) (c .decimal-at9 .ensures) (f .before .if2 .taken)
 
 returns-3 : tie.Need-returns-3
 returns-3 c =
     let e = c .before in
     let a = e .before .before .before .args in
-    guess-number (a .bytes .now) (a .k) (c .number-at10 .ensures) (e .before .if1 .left) (e .if2 .left)
+    guess-number (a .bytes .now) (a .k) (c .decimal-at10 .ensures) (e .before .if1 .left) (e .if2 .left)
 
 pub guess-content-spec : {M : Type 1} → statement M
 guess-content-spec = tie.close (tie.spec

@@ -1,10 +1,10 @@
--- `abi::row_of` meets its contract: each byte is widened as it is, and each number stands as it is. Assumes nothing.
+-- `abi::answer_numbers` meets its contract: each byte is widened as it is, and each number stands as it is. Assumes nothing.
 use Rattle.number.proofs.Signed.{rd-is}
 use Rattle.abi.specs.Rows.{pairs}
 use Rattle.abi.proofs.Laws.{told}
 use borrow.Author.Needs.{needs}
-use Rattle.abi.proofs.row_of.Statement.{statement}
-use Rattle.abi.proofs.row_of.Tie as tie
+use Rattle.abi.proofs.answer_numbers.Statement.{statement}
+use Rattle.abi.proofs.answer_numbers.Tie as tie
 
 returns : tie.Need-returns
 unfolding pairs
@@ -43,7 +43,7 @@ returns c =
       rd-is {z = s .args .e .number} (record { sfits = c .struct-told5 .given .0 .1 }),
     )
 
-pub row-of-spec : {M : Type 1} → statement M
-row-of-spec = tie.close (tie.spec
+pub answer-numbers-spec : {M : Type 1} → statement M
+answer-numbers-spec = tie.close (tie.spec
     (λ c κs. search needs) (λ c κs. search needs) (λ c κs. search needs) (λ c κs. search needs) (λ c κs. search needs)
     (λ c κs. search needs) (λ c κs. search needs) (λ c κs. search needs) (λ c κs. search needs) (λ c κs. search needs) returns)
