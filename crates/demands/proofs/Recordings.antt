@@ -77,19 +77,18 @@ module _ (bench maker : List ℤ) (c : Card) (values : List ℤ) (s : Sound benc
         ∙ ap (λ (k : ℕ). take k (laid (ends ws .bytes) out)) (sym b)
         ∙ laid-front (ends ws .bytes) out
 
-  pub alike : (ws xs out out′ : List ℕ) → xs ≡ normal ws → c .pending .len ≡ 0 → validWords ws ≡ true → length (replies bench maker c values ws) ≤ length out
+  -- two recordings that leave the same
+  pub alike : (ws xs out out′ : List ℕ) → leftBy (ends ws) ≡ leftBy (ends xs) → validWords ws ≡ true → validWords xs ≡ true → length (replies bench maker c values ws) ≤ length out
       → length (replies bench maker c values xs) ≤ length out′ → PlayedAlike bench maker c values ws xs out out′
-  alike ws xs out out′ is-normal p v h h′ =
+  alike ws xs out out′ e v v′ h h′ =
       let n = length (replies bench maker c values ws) in
-      let e = subst (λ (ys : List ℕ). leftBy (ends ws) ≡ leftBy (ends ys)) (sym is-normal) (left-alike bench maker c values ws p) in
       let b : length (ends ws .bytes) ≡ n = ap length (all-replies bench maker c values ws) in
       let b′ : length (ends xs .bytes) ≡ n = sym (ap (λ (l : Left). length (l .bytes)) e) ∙ b in
-      let v′ : validWords xs ≡ true = ap validWords is-normal ∙ normal-valid ws in
       let k : length (ends xs .bytes) ≡ length (replies bench maker c values xs) = ap length (all-replies bench maker c values xs) in
       let m : n ≤ length out′ = omega arith in
       record {
         takes-all = outcome ws out n v b h;
-        normal-takes-all = outcome xs out′ n v′ b′ m;
+        other-takes-all = outcome xs out′ n v′ b′ m;
         same-replies = bytes-written ws out n v b h ∙ ap (λ (l : Left). l .bytes) e ∙ sym (bytes-written xs out′ n v′ b′ m);
         same-values = ap (λ (r : After Took). r .values) (served ws out n v b h) ∙ ap (λ (l : Left). l .values) e ∙ sym (ap (λ (r : After Took). r .values) (served xs out′ n v′ b′ m));
         same-offer = ap (λ (r : After Took). r .card .offer) (served ws out n v b h) ∙ ap (λ (l : Left). l .offer) e ∙ sym (ap (λ (r : After Took). r .card .offer) (served xs out′ n v′ b′ m));
@@ -109,5 +108,6 @@ demand-3 = record {
       whole xs out′ xs (record { valid = ap validWords e ∙ normal-valid ws; is-normal = e ∙ sym (normal-normal ws) ∙ ap normal (sym e); room = h });
   played-alike = λ ws out xs w bench maker c values a b s p h h′.
       let q = parts ws out xs w in
-      alike bench maker c values s ws xs a b (q .is-normal) p (q .valid) h h′;
+      let e = subst (λ (ys : List ℕ). leftBy (ends bench maker c values s ws) ≡ leftBy (ends bench maker c values s ys)) (sym (q .is-normal)) (left-alike bench maker c values ws p) in
+      alike bench maker c values s ws xs a b e (q .valid) (ap validWords (q .is-normal) ∙ normal-valid ws) h h′;
 }

@@ -25,7 +25,7 @@ pub record Wrote (ws out xs : List ℕ) : Type 0 where
 pub record PlayedAlike (bench maker : List ℤ) (c : Card) (values : List ℤ) (ws xs out out′ : List ℕ) : Type 0 where
   -- each takes every word, and writes all its replies
   pub takes-all : runCall c bench maker values ws out .outcome ≡ gave (record { words = length ws; bytes = length (replies bench maker c values ws) })
-  pub normal-takes-all : runCall c bench maker values xs out′ .outcome ≡ gave (record { words = length xs; bytes = length (replies bench maker c values ws) })
+  pub other-takes-all : runCall c bench maker values xs out′ .outcome ≡ gave (record { words = length xs; bytes = length (replies bench maker c values ws) })
   -- "Both draw the same reply bytes, in the same order, and the values and offer after the one equal those after the other."
   pub same-replies : take (length (replies bench maker c values ws)) (runCall c bench maker values ws out .buffer) ≡ take (length (replies bench maker c values ws)) (runCall c bench maker values xs out′ .buffer)
   pub same-values : runCall c bench maker values ws out .values ≡ runCall c bench maker values xs out′ .values
