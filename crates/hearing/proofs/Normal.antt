@@ -58,7 +58,7 @@ unfolding normal
 normal-same a b = (λ e. sym (heard-normal a) ∙ ap heard e ∙ heard-normal b, λ e. ap wordsOf e)
 
 -- it is a recording
-words-valid : (ms : List Message) → validWords (wordsOf ms) ≡ true
+pub words-valid : (ms : List Message) → validWords (wordsOf ms) ≡ true
 unfolding wordsOf
 words-valid [] = no-words-valid
 words-valid (m ∷ ms) = append-valid (travelling (spell m)) (wordsOf ms) (travelling-valid (spell m)) (words-valid ms)

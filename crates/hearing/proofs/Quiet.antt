@@ -1,18 +1,22 @@
--- With no message open it does not matter what stands where an open message would: the same messages are heard. Assumes nothing.
+-- With no message open it does not matter what stands where an open message would: the same messages are heard. So behind a silence,
+-- and a word with which a message is heard leaves none open. Assumes nothing.
 use mathlib.Core.Path.{_≡_, refl, sym, ap, _∙_}
 use mathlib.Core.List.{List, [], _∷_}
 use Prim.Native.Nat.{ℕ}
-use borrow.Author.Tests.{eq-eqb}
-use Rattle.refusal.proofs.Logic.{choice}
+use native.Mathlib.Omega.{arith}
+use borrow.Author.Tests.{eq-eqb, eqb-true}
+use lib.Dec.{eqb}
+use Rattle.refusal.proofs.Logic.{choice, by-test}
 use Rattle.wire.specs.declared.Received.{Received}
 use Rattle.wire.specs.declared.Received.the-variants.{Character, Nothing}
 use Rattle.wire.specs.Word.{received}
 use Rattle.message.specs.declared.Message.{Message}
-use Rattle.message.specs.declared.Parsed.the-variants.{Unheard}
+use Rattle.message.specs.declared.Parsed.the-variants.{Heard, Unheard}
 use Rattle.message.specs.Message.{isLetter}
 use Rattle.hearing.specs.declared.Pending.{Pending}
 use Rattle.hearing.specs.declared.Action.{Action}
-use Rattle.hearing.specs.Hearing.{none, opening, actionOf, perform, hear, before, heardFrom}
+use Rattle.hearing.specs.declared.Action.the-variants.{Ignore, Open, Add, Close, Drop}
+use Rattle.hearing.specs.Hearing.{none, opening, continuing, actionOf, perform, hear, before, heardFrom}
 
 -- what is heard by an action, and then
 heardBy : Pending → List ℕ → Action → List Message
@@ -40,3 +44,27 @@ heard-closed p e (w ∷ ws) =
     ap (heardBy p ws) (opens p e w)
     ∙ alike p e ws (heard-closed p e ws) (received w)
     ∙ ap (heardBy none ws) (sym (none-opens w))
+
+-- a silence drops what is open
+pub heard-silence : (p : Pending) (ws : List ℕ) → heardFrom p (256 ∷ ws) ≡ heardFrom none ws
+unfolding heardFrom hear actionOf opening continuing received perform before
+heard-silence p ws =
+    by-test (eqb (p .len) 0)
+    (λ t. rw t (heard-closed p (eqb-true (p .len) 0 t) ws))
+    (λ t. rw t)
+
+unheard : {m : Message} → Unheard ≡ Heard m → ⊥
+unheard e = let z : _≡_ {A = ℕ} 0 1 = cc in omega arith
+
+-- a message is heard with the word that closes it
+performed : (p : Pending) (a : Action) (m : Message) → perform p a .message ≡ Heard m → perform p a .pending ≡ none
+unfolding perform
+performed p Ignore m e = absurd (unheard e)
+performed p (Open c) m e = absurd (unheard e)
+performed p (Add c) m e = absurd (unheard e)
+performed p Close m e = refl
+performed p Drop m e = refl
+
+pub heard-closes : (p : Pending) (w : ℕ) (m : Message) → hear p w .message ≡ Heard m → hear p w .pending ≡ none
+unfolding hear
+heard-closes p w m e = performed p (actionOf p w) m e
