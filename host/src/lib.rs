@@ -1,5 +1,5 @@
-//! An independent implementation of document 01 (`papers/01-scope.md`) and of request 1 of document 02
-//! in plain Rust, written from the papers alone, and what compares it with the proved archive.
+//! An independent implementation of document 01 (`papers/01-scope.md`) and of requests 1 and 2 of
+//! document 02 in plain Rust, written from the papers alone, and what compares it with the proved archive.
 //!
 //! - [`reference`]: the papers' rules.
 //! - `abi`: the seven C functions of the archive, with safe wrappers. Only where they are linked.

@@ -264,7 +264,7 @@ module _ (bench maker values : List ℤ) (v : soundValues bench maker values ≡
   unfolding act respond onScan onRow addressed
   good-act c o s g =
       choice (Good bench maker) (eqb (m .identifier) scanIdentifier)
-      (λ u. choice (Good bench maker) (isFor c m) (λ t. good-scan u c s (m .body)) (λ t. good-silence bench maker Nothing))
+      (λ u. choice (Good bench maker) (isFor c m) (λ t. good-scan u c s (m .body)) (λ t. good-silence bench maker o))
       (λ u.
       choice (Good bench maker) (isFor c m) (λ t. good-serve o g u (m .body) (body-parts (m .identifier) (m .body) (p .fits-body)))
-      (λ t. good-silence bench maker Nothing))
+      (λ t. good-silence bench maker o))

@@ -2,14 +2,14 @@
 -- its number for its identifier, where the row is not read only and the number is in range. And such a Type 3 does leave it. Assumes nothing.
 use mathlib.Core.Path.{_≡_, refl, sym, ap, _∙_}
 use mathlib.Core.Bool.{true, false, _&&_, _||_}
-use mathlib.Core.List.{List, map}
+use mathlib.Core.List.{List, [], _∷_, map}
 use Prim.Native.Nat.{ℕ}
 use native.Mathlib.Omega.{arith}
 use borrow.Author.Tests.{eqb-true, eq-eqb}
 use lib.Dec.{eqb}
 use lib.IntN.{ℤ, pos}
 use lib.ListN.{getD}
-use Rattle.refusal.proofs.Logic.{ands, and-both, or-cases, choice}
+use Rattle.refusal.proofs.Logic.{ands, and-both, or-cases, choice, by-test}
 use Rattle.number.specs.declared.Decimal.{Decimal}
 use Rattle.number.specs.Data.{withDecimals}
 use Rattle.number.specs.Number.{inRange, cut, raised, lowered}
@@ -30,7 +30,7 @@ use Rattle.act.specs.declared.Offer.{Offer}
 use Rattle.act.specs.declared.Offer.the-variants.{Nothing, Held}
 use Rattle.act.specs.declared.Said.the-variants.{Reply}
 use Rattle.act.specs.declared.Effect.{Effect}
-use Rattle.act.specs.Act.{answerTo, noNumber, says, accepts, shownBy, declines, query, moves, up, down, offers, setTo, decimalsOf, store, serve, named, namesFrom, valueOf, scanOf, declinesScan, serveScan, isFor, addressed, onScan, onRow, respond, act}
+use Rattle.act.specs.Act.{unmoved, answerTo, noNumber, says, accepts, shownBy, declines, query, moves, up, down, offers, setTo, decimalsOf, store, serve, named, namesFrom, valueOf, scanOf, declinesScan, serveScan, isFor, ours, addressed, onScan, onRow, respond, act}
 
 -- the message m leaves the value z on offer for the identifier i
 pub record Leaves (bench maker : List ℤ) (m : Message) (i : ℕ) (z : ℤ) : Type 0 where
@@ -124,12 +124,16 @@ module _ (bench maker : List ℤ) (m : Message) where
   left-scan c x (body.Set y) = left-says Declined noNumber
   left-scan c x body.Store = λ i z q. nothing q
 
-  pub act-leaves : (c : Setup) (o : Offer) (values : List ℤ) (i : ℕ) (z : ℤ) → act bench maker c o values m .offer ≡ Held i z → Leaves bench maker m i z
+  -- at the card that it is for
+  pub act-leaves : (c : Setup) (o : Offer) (values : List ℤ) → isFor c m ≡ true → (i : ℕ) (z : ℤ) → act bench maker c o values m .offer ≡ Held i z → Leaves bench maker m i z
   unfolding act respond onScan onRow addressed
-  act-leaves c o values =
-      choice Left (eqb (m .identifier) scanIdentifier)
-      (λ u. choice Left (isFor c m) (λ t. left-scan c _ (m .body)) (λ t i z q. nothing q))
-      (λ u. choice Left (isFor c m) (λ t. left-serve o (getD values (m .identifier) (pos 0)) (m .body) refl) (λ t i z q. nothing q))
+  act-leaves c o values t =
+      rw t (choice Left (eqb (m .identifier) scanIdentifier) (λ u. left-scan c _ (m .body)) (λ u. left-serve o (getD values (m .identifier) (pos 0)) (m .body) refl))
+
+  -- at any other
+  pub act-neighbour : (c : Setup) (o : Offer) (values : List ℤ) → isFor c m ≡ false → act bench maker c o values m ≡ unmoved o
+  unfolding act respond onScan onRow addressed
+  act-neighbour c o values t = rw t (choice (λ (x : Effect). x ≡ unmoved o) (eqb (m .identifier) scanIdentifier) (λ u. refl) (λ u. refl))
 
 -- ---- the values that a card names
 
@@ -162,9 +166,31 @@ pub own-card : (c : Setup) (m : Message) → c .letter ≡ m .letter → c .addr
 unfolding isFor
 own-card c m p q = and-both (eq-eqb (m .letter) (c .letter) (sym p)) (eq-eqb (m .address) (c .address) (sym q))
 
+-- those of some messages
+module _ (c : Setup) where
+  pub ours-none : ours c [] ≡ []
+  unfolding ours
+  ours-none = refl
+
+  module _ (m : Message) (ms : List Message) where
+    pub ours-own : isFor c m ≡ true → ours c (m ∷ ms) ≡ m ∷ ours c ms
+    unfolding ours
+    ours-own t = rw t
+
+    pub ours-other : isFor c m ≡ false → ours c (m ∷ ms) ≡ ours c ms
+    unfolding ours
+    ours-other t = rw t
+
+  pub ours-ours : (ms : List Message) → ours c (ours c ms) ≡ ours c ms
+  ours-ours [] = ap (ours c) ours-none
+  ours-ours (m ∷ ms) =
+      by-test (isFor c m)
+      (λ t. ap (ours c) (ours-own m ms t) ∙ ours-own m (ours c ms) t ∙ ap (λ (l : List Message). m ∷ l) (ours-ours ms) ∙ sym (ours-own m ms t))
+      (λ t. ap (ours c) (ours-other m ms t) ∙ ours-ours ms ∙ sym (ours-other m ms t))
+
 -- what the card does, by whether the message is on `]`
 module _ (c : Setup) (o : Offer) (e : ℕ → Entry) (v : ℕ → ℤ) (m : Message) where
-  pub scan-responds : eqb (m .identifier) scanIdentifier ≡ true → onScan c e v m ≡ respond c o e v m
+  pub scan-responds : eqb (m .identifier) scanIdentifier ≡ true → onScan c o e v m ≡ respond c o e v m
   unfolding respond
   scan-responds q = sym (rw q)
 

@@ -31,9 +31,13 @@ use Rattle.act.specs.declared.Store.{Store}
 use Rattle.act.specs.declared.Store.the-variants.{Keep, Put}
 use Rattle.act.specs.declared.Effect.{Effect}
 
+-- silence, the offer as it was, nothing stored
+abbrev pub unmoved : Offer → Effect
+unmoved o = record { said = Silence; offer = o; store = Keep }
+
 -- silence, offer gone
 abbrev pub silent : Effect
-silent = record { said = Silence; offer = Nothing; store = Keep }
+silent = unmoved Nothing
 
 -- an answer to this message
 abbrev pub answerTo : Message → Mark → Content → Answer
@@ -154,21 +158,28 @@ serveScan c m x body.Store = silent
 unfoldable pub isFor : Setup → Message → Bool
 isFor c m = eqb (m .letter) (c .letter) && eqb (m .address) (c .address)
 
--- "A heard message with another letter or address: silence, offer gone."
-unfoldable pub addressed : Setup → Message → Effect → Effect
-addressed c m x = cond (isFor c m) x silent
+-- document 02, ticket 2: "the real card takes no notice of traffic for another letter or address"
+unfoldable pub addressed : Setup → Offer → Message → Effect → Effect
+addressed c o m x = cond (isFor c m) x (unmoved o)
 
 -- e gives the entry of each identifier, and v the value stored at its place: a message on `]`
-unfoldable pub onScan : Setup → (ℕ → Entry) → (ℕ → ℤ) → Message → Effect
-onScan c e v m = addressed c m (serveScan c m (scanOf c (valueOf e v)) (m .body))
+unfoldable pub onScan : Setup → Offer → (ℕ → Entry) → (ℕ → ℤ) → Message → Effect
+onScan c o e v m = addressed c o m (serveScan c m (scanOf c (valueOf e v)) (m .body))
 
 -- on any other identifier
 unfoldable pub onRow : Setup → Offer → (ℕ → Entry) → (ℕ → ℤ) → Message → Effect
-onRow c o e v m = addressed c m (serve m (e (m .identifier)) o (v (m .identifier)) (m .body))
+onRow c o e v m = addressed c o m (serve m (e (m .identifier)) o (v (m .identifier)) (m .body))
 
 unfoldable pub respond : Setup → Offer → (ℕ → Entry) → (ℕ → ℤ) → Message → Effect
-respond c o e v m = cond (eqb (m .identifier) scanIdentifier) (onScan c e v m) (onRow c o e v m)
+respond c o e v m = cond (eqb (m .identifier) scanIdentifier) (onScan c o e v m) (onRow c o e v m)
 
 -- under these sheets and values
 unfoldable pub act : List ℤ → List ℤ → Setup → Offer → List ℤ → Message → Effect
 act bench maker c o values m = respond c o (entryIn bench maker) (λ (i : ℕ). getD values i (pos 0)) m
+
+-- ---- several messages
+
+-- those of them that are for this card; a claim cites it, and no call
+unfoldable pub ours : Setup → List Message → List Message
+ours c [] = []
+ours c (m ∷ ms) = cond (isFor c m) (m ∷ ours c ms) (ours c ms)

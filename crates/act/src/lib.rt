@@ -4,7 +4,7 @@ ghost use lib.IntN.{pos};
 ghost use lib.ListN.{getD};
 ghost use Rattle.number.specs.Data.{withDecimals};
 ghost use Rattle.sheet.specs.Inner.{entryAt};
-ghost use Rattle.act.specs.Act.{silent, answerTo, says, accepts, shownBy, declines, query, moves, up, down, offers, setTo, decimalsOf, store, serve, valueOf, scanOf, declinesScan, serveScan, isFor, onScan, onRow};
+ghost use Rattle.act.specs.Act.{unmoved, silent, answerTo, says, accepts, shownBy, declines, query, moves, up, down, offers, setTo, decimalsOf, store, serve, valueOf, scanOf, declinesScan, serveScan, isFor, onScan, onRow};
 use message::Body;
 use message::Message;
 use number::Decimal;
@@ -50,15 +50,22 @@ pub struct Effect {
     pub store: Store,
 }
 
+// Silence, the offer as it was, nothing stored.
+pub fn unmoved(offer: Offer) -> Effect
+    ensures { λ r. ⌜ r ≡ unmoved offer ⌝ }
+{
+    Effect {
+        said: Said::Silence,
+        offer,
+        store: Store::Keep,
+    }
+}
+
 // Silence, offer gone.
 fn silent() -> Effect
     ensures { λ r. ⌜ r ≡ silent ⌝ }
 {
-    Effect {
-        said: Said::Silence,
-        offer: Offer::Nothing,
-        store: Store::Keep,
-    }
+    unmoved(Offer::Nothing)
 }
 
 fn answer_to(message: Message, mark: Mark, content: Content) -> Answer
@@ -339,22 +346,24 @@ fn serve_scan<'a>(
     }
 }
 
-// What a message on `]` leads to, at a card with this setup. It is apart from the others, so that they carry no room for five numbers.
+// What a message on `]` leads to, at a card with this setup and offer. It is apart from the others, so that they carry no room for five numbers.
 // `places` is an index of the two sheets.
 pub fn on_scan<'a>(
     setup: Setup,
+    offer: Offer,
     bench: &'a [i32],
     maker: &'a [i32],
     places: &[usize],
     values: &[i32],
     message: Message,
 ) -> Effect
-    ensures { λ r. ⌜ r ≡ onScan setup (entryAt (now (bench .entry)) (now (maker .entry)) (now (places .entry))) (λ i. getD (now (values .entry)) i (pos 0)) message ⌝ }
+    ensures { λ r. ⌜ r ≡ onScan setup offer (entryAt (now (bench .entry)) (now (maker .entry)) (now (places .entry))) (λ i. getD (now (values .entry)) i (pos 0)) message ⌝ }
 {
-    if !is_for(setup, message) {
-        return silent();
+    if is_for(setup, message) {
+        serve_scan(setup, bench, maker, places, values, message)
+    } else {
+        unmoved(offer)
     }
-    serve_scan(setup, bench, maker, places, values, message)
 }
 
 // What a message on any other identifier leads to, at a card with this setup and offer.
@@ -370,7 +379,7 @@ pub fn on_row<'a>(
     ensures { λ r. ⌜ r ≡ onRow setup offer (entryAt (now (bench .entry)) (now (maker .entry)) (now (places .entry))) (λ i. getD (now (values .entry)) i (pos 0)) message ⌝ }
 {
     if !is_for(setup, message) {
-        return silent();
+        return unmoved(offer);
     }
     let identifier = message.identifier;
     let entry = sheet::find_at(bench, maker, places, identifier);

@@ -9,6 +9,7 @@ use borrow.Author.Tests.{le-leb}
 use lib.Dec.{leb}
 use lib.IntN.{ℤ}
 use lib.ListN.{length, length-append}
+use Rattle.refusal.proofs.Logic.{by-test}
 use Rattle.message.specs.declared.Message.{Message}
 use Rattle.message.specs.declared.Parsed.{Parsed}
 use Rattle.message.specs.declared.Parsed.the-variants.{Heard, Unheard}
@@ -20,7 +21,8 @@ use Rattle.hearing.proofs.Quiet.{heard-closed}
 use Rattle.act.specs.declared.Setup.{Setup}
 use Rattle.act.specs.declared.Offer.{Offer}
 use Rattle.act.specs.declared.Effect.{Effect}
-use Rattle.act.specs.Act.{act}
+use Rattle.act.specs.Act.{isFor, ours, act}
+use Rattle.act.proofs.OnOffer.{act-neighbour, ours-none, ours-own, ours-other}
 use Rattle.card.specs.declared.Card.{Card}
 use Rattle.card.specs.Turn.{Turn, replyOf, effectOf, turned, turn, stored, Played, stopped, after, play}
 use Rattle.card.proofs.Turns.{effects}
@@ -110,6 +112,25 @@ module _ (bench maker : List ℤ) where
       ap (lead (t .reply)) (obeyed (t .card) (stored values (t .store)) ws)
       ∙ sym (obey-before c values (hear (c .pending) w .message) (heardFrom (hear (c .pending) w .pending) ws))
       ∙ ap (obey (c .setup) (c .offer) values) (sym (heard-word (c .pending) w ws))
+
+  -- a message for another card draws nothing and leaves nothing
+  obey-ours : (s : Setup) (o : Offer) (values : List ℤ) (ms : List Message) → obey s o values ms ≡ obey s o values (ours s ms)
+  unfolding obey stored
+  obey-ours s o values [] = ap (obey s o values) (sym (ours-none s))
+  obey-ours s o values (m ∷ ms) =
+      let obeys : Effect → Left = λ e. lead (replyOf (e .said)) (obey s (e .offer) (stored values (e .store)) ms) in
+      let x : Effect = act bench maker s o values m in
+      by-test (isFor s m)
+      (λ t. ap (lead (replyOf (x .said))) (obey-ours s (x .offer) (stored values (x .store)) ms) ∙ ap (obey s o values) (sym (ours-own s m ms t)))
+      (λ t. ap obeys (act-neighbour bench maker m s o values t) ∙ obey-ours s o values ms ∙ ap (obey s o values) (sym (ours-other s m ms t)))
+
+  -- so two recordings with the same messages for this card leave the same
+  pub left-ours : (c : Card) (values : List ℤ) (a b : List ℕ) → ours (c .setup) (heardFrom (c .pending) a) ≡ ours (c .setup) (heardFrom (c .pending) b) → leftBy (all c values a) ≡ leftBy (all c values b)
+  left-ours c values a b e =
+      obeyed c values a
+      ∙ obey-ours (c .setup) (c .offer) values (heardFrom (c .pending) a)
+      ∙ ap (obey (c .setup) (c .offer) values) e
+      ∙ sym (obeyed c values b ∙ obey-ours (c .setup) (c .offer) values (heardFrom (c .pending) b))
 
   -- a recording and its normal form, from one card with no message open
   pub left-alike : (c : Card) (values : List ℤ) (ws : List ℕ) → c .pending .len ≡ 0 → leftBy (all c values ws) ≡ leftBy (all c values (normal ws))

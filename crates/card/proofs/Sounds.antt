@@ -35,8 +35,8 @@ use Rattle.act.specs.declared.Offer.the-variants.{Nothing, Held}
 use Rattle.act.specs.declared.Said.the-variants.{Reply}
 use Rattle.act.specs.declared.Store.{Store}
 use Rattle.act.specs.declared.Store.the-variants.{Keep, Put}
-use Rattle.act.specs.Act.{named, namesFrom, act}
-use Rattle.act.proofs.OnOffer.{Leaves, act-leaves}
+use Rattle.act.specs.Act.{named, namesFrom, isFor, act}
+use Rattle.act.proofs.OnOffer.{Leaves, act-leaves, act-neighbour}
 use Rattle.act.proofs.Effects.{Allowed, Fair, FairScan, Good, good-silence, good-act}
 use Rattle.card.specs.declared.Card.{Card}
 use Rattle.card.specs.Turn.{effectOf, turn, stored}
@@ -98,12 +98,13 @@ module _ (bench maker : List ℤ) where
       let c = cut-fits r (entry-sound bench maker i r f) (l .number .number) (l .in-range) in
       parts-offer i z (record { allowed = record { row = r; found = f; fits = rw (l .value) at c }; writable = l .writable })
 
-  act-sound : (s : Setup) (o : Offer) (values : List ℤ) (m : Message) → soundOffer bench maker (act bench maker s o values m .offer) ≡ true
-  act-sound s o values m = go (act bench maker s o values m .offer) refl
+  act-sound : (s : Setup) (o : Offer) (values : List ℤ) (m : Message) → soundOffer bench maker o ≡ true → soundOffer bench maker (act bench maker s o values m .offer) ≡ true
+  act-sound s o values m h =
+      by-test (isFor s m) (λ t. go t (act bench maker s o values m .offer) refl) (λ t. rw (act-neighbour bench maker m s o values t) h)
     where
-      go : (x : Offer) → act bench maker s o values m .offer ≡ x → soundOffer bench maker x ≡ true
-      go Nothing e = nothing-sound bench maker
-      go (Held i z) e = leaves-sound m i z (act-leaves bench maker m s o values i z e)
+      go : isFor s m ≡ true → (x : Offer) → act bench maker s o values m .offer ≡ x → soundOffer bench maker x ≡ true
+      go t Nothing e = nothing-sound bench maker
+      go t (Held i z) e = leaves-sound m i z (act-leaves bench maker m s o values t i z e)
 
 -- ---- the scan
 
@@ -196,7 +197,7 @@ module _ (bench maker values : List ℤ) where
 module _ (bench maker : List ℤ) (c : Card) (values : List ℤ) (h : soundOffer bench maker (c .offer) ≡ true) where
   effect-offer : (p : Parsed) → soundOffer bench maker (effects bench maker c values p .offer) ≡ true
   unfolding effectOf
-  effect-offer (Heard m) = act-sound bench maker (c .setup) (c .offer) values m
+  effect-offer (Heard m) = act-sound bench maker (c .setup) (c .offer) values m h
   effect-offer Unheard = h
 
   module _ (n : soundScan bench maker (c .setup) ≡ true) (v : soundValues bench maker values ≡ true) where

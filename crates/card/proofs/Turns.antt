@@ -22,21 +22,27 @@ use Rattle.message.specs.Prefix.{parse}
 use Rattle.hearing.specs.declared.Action.{Action}
 use Rattle.hearing.specs.declared.Action.the-variants.{Ignore, Open, Add, Close, Drop}
 use Rattle.hearing.specs.declared.Hearing.{Hearing}
+use Rattle.hearing.specs.declared.Pending.{Pending}
 use Rattle.hearing.specs.Hearing.{none, added, openOf, actionOf, perform, hear}
+use Rattle.hearing.proofs.Quiet.{heard-closes}
 use Rattle.act.specs.declared.Setup.{Setup}
 use Rattle.act.specs.declared.Offer.{Offer}
 use Rattle.act.specs.declared.Said.{Said}
 use Rattle.act.specs.declared.Said.the-variants.{Silence, Reply}
 use Rattle.act.specs.declared.Effect.{Effect}
 use Rattle.act.specs.declared.Store.the-variants.{Keep}
-use Rattle.act.specs.Act.{onScan, onRow, respond, act}
-use Rattle.act.proofs.OnOffer.{scan-responds, row-responds}
+use Rattle.act.specs.Act.{unmoved, isFor, onScan, onRow, respond, act}
+use Rattle.act.proofs.OnOffer.{act-neighbour, scan-responds, row-responds}
 use Rattle.card.specs.declared.Card.{Card}
-use Rattle.card.specs.Turn.{Turn, replyOf, effectOf, withBoth, turned, turn}
+use Rattle.card.specs.Turn.{Turn, replyOf, effectOf, withBoth, turned, turn, stored}
 
 -- a word that has closed no heard message
 abbrev pub stays : Card → Turn
 stays c = record { card = c; reply = []; store = Keep }
+
+pub nothing-stored : (values : List ℤ) → stored values Keep ≡ values
+unfolding stored
+nothing-stored values = refl
 
 -- document 02, ticket 1: "Longest reply becomes 33 bytes"
 pub reply-length : (s : Said) → length (replyOf s) ≤ longestReply
@@ -52,7 +58,7 @@ module _ (bench maker : List ℤ) where
     unfolding effectOf
     effect-heard m = refl
 
-    pub effect-unheard : record { said = Silence; offer = o; store = Keep } ≡ effectOf bench maker s o values Unheard
+    pub effect-unheard : unmoved o ≡ effectOf bench maker s o values Unheard
     unfolding effectOf
     effect-unheard = refl
 
@@ -66,7 +72,7 @@ module _ (bench maker : List ℤ) where
 
     module _ (places : List ℕ) (m : Message) (b : soundSheet bench ≡ true) (k : soundSheet maker ≡ true) (e : places ≡ indexOf bench maker) where
       pub effect-scan : eqb (m .identifier) scanIdentifier ≡ true
-          → onScan s (entryAt bench maker places) (λ (i : ℕ). getD values i (pos 0)) m ≡ effectOf bench maker s o values (Heard m)
+          → onScan s o (entryAt bench maker places) (λ (i : ℕ). getD values i (pos 0)) m ≡ effectOf bench maker s o values (Heard m)
       effect-scan q = scan-responds s o (entryAt bench maker places) (λ (i : ℕ). getD values i (pos 0)) m q ∙ effect-index places m b k e
 
       pub effect-row : eqb (m .identifier) scanIdentifier ≡ false
@@ -112,6 +118,15 @@ module _ (bench maker : List ℤ) where
     pub turn-closes : (w : ℕ) (o : Parsed) → hear (c .pending) w ≡ record { pending = none; message = o } → turn bench maker c values w ≡ turned c none (effects o)
     unfolding turn
     turn-closes w o e = ap (λ (h : Hearing). turned c (h .pending) (effects (h .message))) e
+
+    -- a message for another card
+    pub turn-neighbour : (w : ℕ) (m : Message) → hear (c .pending) w .message ≡ Heard m → isFor (c .setup) m ≡ false → turn bench maker c values w ≡ stays (withBoth c none (c .offer))
+    unfolding turn turned
+    turn-neighbour w m e t =
+        let p = heard-closes (c .pending) w m e in
+        ap (λ (o : Parsed). turned c (hear (c .pending) w .pending) (effects o)) e
+        ∙ ap (turned c (hear (c .pending) w .pending)) (effect-heard (c .setup) (c .offer) values m ∙ act-neighbour bench maker m (c .setup) (c .offer) values t)
+        ∙ ap (λ (q : Pending). turned c q (unmoved (c .offer))) p
 
     -- ---- a word by what it does
 

@@ -38,15 +38,6 @@ fn say(said: Said, out: &mut [u8], at: usize) -> Written
     reply::place(answer, out, at)
 }
 
-// What is closed and not heard leads to.
-fn unheard(offer: Offer) -> Effect
-    ensures { λ r. ⌜ r ≡ record { said = Said.Silence; offer = offer; store = Store.Keep } ⌝ }
-{
-    let said = Said::Silence;
-    let store = Store::Keep;
-    Effect { said, offer, store }
-}
-
 // A message on `]`.
 fn is_scan(parsed: Parsed) -> bool
     ensures { λ r. ⌜ r ≡ isScan parsed ⌝ }
@@ -71,9 +62,9 @@ fn scan_effect<'a>(
     ensures { λ r. ⌜ r ≡ effectOf (now (bench .entry)) (now (maker .entry)) setup offer (now (values .entry)) parsed ⌝ }
 {
     let Parsed::Heard(message) = parsed else {
-        return unheard(offer);
+        return act::unmoved(offer);
     };
-    act::on_scan(setup, bench, maker, places, values, message)
+    act::on_scan(setup, offer, bench, maker, places, values, message)
 }
 
 // What any other leads to.
@@ -90,7 +81,7 @@ fn effect_of<'a>(
     ensures { λ r. ⌜ r ≡ effectOf (now (bench .entry)) (now (maker .entry)) setup offer (now (values .entry)) parsed ⌝ }
 {
     let Parsed::Heard(message) = parsed else {
-        return unheard(offer);
+        return act::unmoved(offer);
     };
     act::on_row(setup, offer, bench, maker, places, values, message)
 }

@@ -5,16 +5,18 @@ use mathlib.Core.Bool.{Bool, true, _&&_}
 use mathlib.Core.List.{List, []}
 use lib.Count.{ones, onesIn}
 use lib.IntN.{pos}
+use lib.ListN.{length}
 use Rattle.refusal.specs.Lists.{every, same}
 use Rattle.refusal.specs.Buffer.{laid}
 use Rattle.refusal.specs.Check.{first}
+use Rattle.wire.specs.Text.{chars}
 use Rattle.wire.specs.Word.{evenParity, withParity, received, travelling, validWords}
 use Rattle.number.specs.Number.{inRange, isMultiple, cutDown, cut, raised, lowered}
 use Rattle.number.specs.Data.{digit, isDigit, digitOf, fits, codeOf, fiveDigits, spellData, spellAll, decode, readNext, readFrom, readData}
 use Rattle.message.specs.Message.{isLetter, isAddress, isIdentifier}
 use Rattle.message.specs.Prefix.{extendIdentifier, extendAddress, extendData, extendBody, extend, extendAll, finish, parse}
 use Rattle.message.specs.Spell.{spellAddress}
-use Rattle.hearing.specs.Hearing.{none, added, openOf, opening, continuing, actionOf, perform, hear}
+use Rattle.hearing.specs.Hearing.{none, added, openOf, opening, continuing, actionOf, perform, hear, before, heardFrom, heard}
 use Rattle.hearing.specs.Sound.{plainChar, plain, zeros, soundPending}
 use Rattle.sheet.specs.Sheet.{rows, soundIdentifier, soundNumbers, soundRow, soundRows, soundSheet}
 use Rattle.sheet.specs.Lookup.{codeIs, rowAmong, placeAmong, rowIn, placeIn, hasRow, rowOf}
@@ -28,7 +30,7 @@ use Rattle.card.specs.Turn.{effectOf, turned, turn, stored, play}
 use Rattle.card.specs.Refusals.{soundScan, soundSetup, soundCard, offerable, soundOffer, cardChecks}
 use Rattle.card.specs.Calls.{runCall}
 use Rattle.demands.specs.Terms.{Sound}
-use Rattle.demands.specs.Bench.{benchRows, benchValues, benchCard, Case, benchCases, moreCases, scanCases, noReplies, timeRow, scanValues, scanCard, equalZ, took, answersAll, passes, passesScan, isNoReply}
+use Rattle.demands.specs.Bench.{benchRows, benchValues, benchCard, Case, benchCases, twentyNeighbours, moreCases, scanCases, noReplies, timeRow, scanValues, scanCard, equalZ, took, answersAll, passes, passesScan, isNoReply}
 
 -- what a table computes through
 computed : List Case → Bool
@@ -42,8 +44,12 @@ bench = refl
 
 -- the second table
 pub more : every passes moreCases ≡ true
-unfolding computed moreCases
+unfolding computed moreCases twentyNeighbours
 more = refl
+
+pub twenty-heard : length (heard (travelling (chars twentyNeighbours))) ≡ 20
+unfolding computed heard heardFrom before twentyNeighbours
+twenty-heard = refl
 
 -- the scan
 pub scan : every passesScan scanCases ≡ true

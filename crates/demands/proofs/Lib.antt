@@ -6,3 +6,4 @@ pub mod Answers
 pub mod Possible
 pub mod Offers
 pub mod Recordings
+pub mod Neighbours

@@ -32,7 +32,7 @@ use Rattle.sheet.proofs.Values.{SoundRow, entry-sound, entry-identifier, fits-p
 use Rattle.sheet.proofs.Least.{leastValues, least-sound}
 use Rattle.act.specs.declared.Offer.the-variants.{Nothing, Held}
 use Rattle.act.specs.declared.Effect.{Effect}
-use Rattle.act.specs.Act.{act}
+use Rattle.act.specs.Act.{isFor, act}
 use Rattle.act.proofs.OnOffer.{Leaves, act-leaves, set-leaves}
 use Rattle.card.specs.declared.Card.{Card}
 use Rattle.card.specs.Turn.{turn}
@@ -54,9 +54,9 @@ module _ (bench maker : List ℤ) (c : Card) (values : List ℤ) (w : ℕ) (m : 
       ∙ ap (λ (p : Parsed). effects bench maker c values p .offer) h
       ∙ ap (λ (x : Effect). x .offer) (effect-heard bench maker (c .setup) (c .offer) values m)
 
-  call-leaves : (out : List ℕ) (k i : ℕ) (z : ℤ) → stepCall c bench maker values w out .outcome ≡ gave k → stepCall c bench maker values w out .card .offer ≡ Held i z → Leaves bench maker m i z
-  call-leaves out k i z g l =
-      act-leaves bench maker m (c .setup) (c .offer) values i z
+  call-leaves : isFor (c .setup) m ≡ true → (out : List ℕ) (k i : ℕ) (z : ℤ) → stepCall c bench maker values w out .outcome ≡ gave k → stepCall c bench maker values w out .card .offer ≡ Held i z → Leaves bench maker m i z
+  call-leaves t out k i z g l =
+      act-leaves bench maker m (c .setup) (c .offer) values t i z
       (sym turn-offer ∙ sym (ap (λ (a : After ℕ). a .card .offer) (served-step c bench maker values w out k g .leaves)) ∙ l)
 
 -- ---- never up
@@ -72,9 +72,9 @@ cut-not-above r n s h =
 
 pub never-up : NeverUp
 never-up = record {
-  never-up = λ bench maker c values w out k m x z r g h b e l.
+  never-up = λ bench maker c values w out k m x z r g h t b e l.
       let i = m .identifier in
-      let q = call-leaves bench maker c values w m h out k i z g l in
+      let q = call-leaves bench maker c values w m h t out k i z g l in
       let same-row : q .row ≡ r = cc (q .found) in
       let same-number : q .number ≡ x = cc (q .type-3) in
       subst (λ (y : Decimal). NotAbove (y .number) z r) same-number
@@ -87,7 +87,7 @@ never-up = record {
 module _ (bench maker : List ℤ) (i : ℕ) (z : ℤ) where
   -- what a Type 3 leaves is sound
   left-sound : LeftBy bench maker (Held i z) → soundOffer bench maker (Held i z) ≡ true
-  left-sound l = leaves-sound bench maker (l .message) i z (call-leaves bench maker (l .card) (l .values) (l .word) (l .message) (l .closes) (l .out) (l .bytes) i z (l .gives) (l .leaves))
+  left-sound l = leaves-sound bench maker (l .message) i z (call-leaves bench maker (l .card) (l .values) (l .word) (l .message) (l .closes) (l .is-ours) (l .out) (l .bytes) i z (l .gives) (l .leaves))
 
   -- the Type 3 that asks for the value on offer
   abbrev asks : ℕ → Message
@@ -130,6 +130,7 @@ module _ (bench maker : List ℤ) (i : ℕ) (z : ℤ) where
         names-room = refl;
         nothing-before = refl;
         closes = spelled-closed m is-message;
+        is-ours = for-itself m 0 unnamed;
         is-type-3 = refl;
         gives = ap (λ (a : After ℕ). a .outcome) call;
         leaves =

@@ -56,7 +56,7 @@ pub record Case : Type 0 where
 unfoldable pub case : ℤ → List Exchange → ℤ → Case
 case m xs n = record { first = m; exchanges = xs; last = n }
 
--- cases a to l
+-- cases a to l; k ends as document 02, ticket 2 has it
 unfoldable pub benchCases : List Case
 unfolding case _⇒_
 benchCases =
@@ -70,12 +70,18 @@ benchCases =
     ∷ case (pos 20) ("L7m#10031*" ⇒ "L7m00201N*" ∷ []) (pos 20)
     ∷ case (pos 20) ("L7J#00006*" ⇒ "L7J00001I*" ∷ []) (pos 20)
     ∷ case (pos 20) ("L7mI*" ⇒ "" ∷ []) (pos 20)
-    ∷ case (pos 20) ("L7m#00301*" ⇒ "L7m00301I*" ∷ "L8??*" ⇒ "" ∷ "L7mI*" ⇒ "" ∷ []) (pos 20)
+    ∷ case (pos 20) ("L7m#00301*" ⇒ "L7m00301I*" ∷ "L8??*" ⇒ "" ∷ "L7mI*" ⇒ "L7m00301A*" ∷ []) (pos 30)
     ∷ case (pos 20) ("L7Z?*" ⇒ "L7Z00000N*" ∷ []) (pos 20)
     ∷ []
 
+-- twenty messages for other cards
+unfoldable pub twentyNeighbours : String
+twentyNeighbours =
+    "L8??*R7??*L8m?*L8m+*L8m-*L8m#00401*L8mI*R7m?*R7m+*R7m-*R7m#00401*R7mI*L70m?*L17mI*L27m#00401*L8]?*L8]I*R7]?*R8??*R32mI*"
+
 -- cases m to o, and what a to l leave open: an offer used twice, `L` inside a message, codes 4 and 9, ten and eleven characters, a
--- write-only row stored and refused
+-- write-only row stored and refused. Document 02, ticket 2: between offer and store a neighbour's Type 4, its Type 3 for the same
+-- identifier, the other letter with the same address, and twenty neighbours' messages; and then a message for this card, which cancels
 unfoldable pub moreCases : List Case
 unfolding case _⇒_
 moreCases =
@@ -87,6 +93,11 @@ moreCases =
     ∷ case (pos 20) ("L7m#00009*" ⇒ "" ∷ "L7m#00000*" ⇒ "L7m00201N*" ∷ []) (pos 20)
     ∷ case (pos 20) ("L07m#00301*" ⇒ "L7m00301I*" ∷ "L07m#003011*" ⇒ "" ∷ "L7mI*" ⇒ "L7m00301A*" ∷ []) (pos 30)
     ∷ case (pos 20) ("L7Z#00150*" ⇒ "L7Z00150I*" ∷ "L7ZI*" ⇒ "L7Z00150A*" ∷ "L7Z+*" ⇒ "L7Z00000N*" ∷ []) (pos 20)
+    ∷ case (pos 20) ("L7m#00301*" ⇒ "L7m00301I*" ∷ "L8mI*" ⇒ "" ∷ "L7mI*" ⇒ "L7m00301A*" ∷ []) (pos 30)
+    ∷ case (pos 20) ("L7m#00301*" ⇒ "L7m00301I*" ∷ "L8m#00401*" ⇒ "" ∷ "L7mI*" ⇒ "L7m00301A*" ∷ []) (pos 30)
+    ∷ case (pos 20) ("L7m#00301*" ⇒ "L7m00301I*" ∷ "R7m#00401*" ⇒ "" ∷ "R7mI*" ⇒ "" ∷ "L7mI*" ⇒ "L7m00301A*" ∷ []) (pos 30)
+    ∷ case (pos 20) ("L7m#00301*" ⇒ "L7m00301I*" ∷ twentyNeighbours ⇒ "" ∷ "L7mI*" ⇒ "L7m00301A*" ∷ []) (pos 30)
+    ∷ case (pos 20) ("L7m#00301*" ⇒ "L7m00301I*" ∷ "L8mI*" ⇒ "" ∷ "L7??*" ⇒ "L7?A*" ∷ "L7mI*" ⇒ "" ∷ []) (pos 20)
     ∷ []
 
 -- ---- the scan

@@ -29,7 +29,7 @@ use Rattle.reply.specs.declared.Mark.the-variants.{Declined}
 use Rattle.reply.specs.declared.Content.the-variants.{Number}
 use Rattle.reply.specs.Reply.{longestReply, scanIdentifier, spellAnswer}
 use Rattle.reply.specs.Read.{readCall}
-use Rattle.act.specs.Act.{noNumber, mostNamed}
+use Rattle.act.specs.Act.{noNumber, mostNamed, isFor}
 use Rattle.act.specs.declared.Offer.{Offer}
 use Rattle.act.specs.declared.Offer.the-variants.{Nothing, Held}
 use Rattle.act.specs.declared.Said.the-variants.{Silence, Reply}
@@ -84,7 +84,7 @@ pub record ReaderExact : Type 0 where
 
 -- ---- offers
 
--- a sound card with nothing on offer, sound values, and a word that closes a Type 3 message and leaves this offer
+-- a sound card with nothing on offer, sound values, and a word that closes a Type 3 message for this card and leaves this offer
 pub record LeftBy (bench maker : List ℤ) (o : Offer) : Type 0 where
   pub card : Card
   pub values : List ℤ
@@ -99,6 +99,7 @@ pub record LeftBy (bench maker : List ℤ) (o : Offer) : Type 0 where
   pub names-room : length (card .setup .scan) ≡ mostNamed
   pub nothing-before : card .offer ≡ Nothing
   pub closes : hear (card .pending) word .message ≡ Heard message
+  pub is-ours : isFor (card .setup) message ≡ true
   pub is-type-3 : message .body ≡ Set number
   pub gives : its bench maker card values word out .outcome ≡ gave bytes
   pub leaves : its bench maker card values word out .card .offer ≡ o
@@ -114,9 +115,10 @@ pub record NotAbove (n z : ℤ) (r : Row) : Type 0 where
   pub not-above : leZ z n ≡ true
   pub none-between : (y : ℤ) → isMultiple y (r .step) ≡ true → leZ y n ≡ true → leZ y z ≡ true
 
+-- a message for another card leaves the offer that was there, whatever number it has
 pub record NeverUp : Type 0 where
   pub never-up : (bench maker : List ℤ) (c : Card) (values : List ℤ) (w : ℕ) (out : List ℕ) (k : ℕ) (m : Message) (x : Decimal) (z : ℤ) (r : Row) → its bench maker c values w out .outcome ≡ gave k
-      → hear (c .pending) w .message ≡ Heard m → m .body ≡ Set x → entryIn bench maker (m .identifier) ≡ Found r → its bench maker c values w out .card .offer ≡ Held (m .identifier) z → NotAbove (x .number) z r
+      → hear (c .pending) w .message ≡ Heard m → isFor (c .setup) m ≡ true → m .body ≡ Set x → entryIn bench maker (m .identifier) ≡ Found r → its bench maker c values w out .card .offer ≡ Held (m .identifier) z → NotAbove (x .number) z r
 
 -- ---- words
 

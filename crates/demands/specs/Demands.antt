@@ -1,19 +1,26 @@
--- The three demands and the bench cases, all together: what the one function of this crate promises.
+-- The three demands, the neighbours and the bench cases, all together: what the one function of this crate promises.
 use mathlib.Core.Path.{_≡_}
 use mathlib.Core.Bool.{true}
+use lib.ListN.{length}
 use Rattle.refusal.specs.Lists.{every}
-use Rattle.demands.specs.Bench.{benchCases, moreCases, passes, scanCases, passesScan, noReplies, isNoReply}
+use Rattle.wire.specs.Text.{chars}
+use Rattle.wire.specs.Word.{travelling}
+use Rattle.hearing.specs.Hearing.{heard}
+use Rattle.demands.specs.Bench.{benchCases, twentyNeighbours, moreCases, passes, scanCases, passesScan, noReplies, isNoReply}
 use Rattle.demands.specs.Demand1.{Demand1}
 use Rattle.demands.specs.Demand2.{Demand2}
 use Rattle.demands.specs.Demand3.{Demand3}
+use Rattle.demands.specs.Neighbours.{NeighboursIgnored}
 
 pub record Demands : Type 0 where
   pub demand-1 : Demand1
   pub demand-2 : Demand2
   pub demand-3 : Demand3
+  pub neighbours-ignored : NeighboursIgnored
   -- cases a to l, and the second table
   pub bench : every passes benchCases ≡ true
   pub more : every passes moreCases ≡ true
+  pub twenty-heard : length (heard (travelling (chars twentyNeighbours))) ≡ 20
   -- the scan
   pub scan : every passesScan scanCases ≡ true
   pub no-replies : every isNoReply noReplies ≡ true

@@ -57,52 +57,75 @@ fn digits(rng: &mut Rng, row: Option<&Row>, text: &mut Vec<u8>) {
     text.extend_from_slice(format!("{:04}{code}", number.abs()).as_bytes());
 }
 
-fn head(rng: &mut Rng, world: &World, text: &mut Vec<u8>) {
-    let letter = world.card[0] as u8;
-    text.push(match rng.below(20) {
-        0 => letter ^ b'L' ^ b'R',
-        1 => rng.pick(b"LR"),
-        _ => letter,
-    });
-    let address = match rng.below(16) {
-        0 => rng.within(0, 110),
-        1 => world.card[1] % 99 + 1,
-        _ => world.card[1],
-    };
+/// Appends letter and address, some of those under 10 with a leading zero.
+fn put_head(rng: &mut Rng, letter: u8, address: i32, text: &mut Vec<u8>) {
+    text.push(letter);
     if address < 10 && rng.percent(30) {
         text.push(b'0');
     }
     text.extend_from_slice(address.to_string().as_bytes());
 }
 
-/// Appends a message with its `*`, most often well formed and for the card.
-pub fn message(rng: &mut Rng, world: &World, text: &mut Vec<u8>) {
-    head(rng, world, text);
-    let code = identifier(rng, world);
+fn other_letter(letter: u8) -> u8 {
+    letter ^ b'L' ^ b'R'
+}
+
+/// Appends letter and address, most often the card's.
+fn head(rng: &mut Rng, world: &World, text: &mut Vec<u8>) {
+    let letter = world.card[0] as u8;
+    let letter = match rng.below(20) {
+        0 => other_letter(letter),
+        1 => rng.pick(b"LR"),
+        _ => letter,
+    };
+    let address = match rng.below(16) {
+        0 => rng.within(0, 110),
+        1 => world.card[1] % 99 + 1,
+        _ => world.card[1],
+    };
+    put_head(rng, letter, address, text);
+}
+
+/// Appends letter and address of another card: the other letter, another address, or both. Half of the other
+/// addresses have something of the card's own.
+pub fn neighbours_head(rng: &mut Rng, world: &World, text: &mut Vec<u8>) {
+    let (letter, own) = (world.card[0] as u8, world.card[1]);
+    let (tens, ones) = (own / 10, own % 10);
+    let near = [own % 99 + 1, own + 10, tens, ones, ones * 10 + tens, ones * 11];
+    let drawn = if rng.percent(50) { rng.pick(&near) } else { rng.within(1, 99) };
+    let address = if matches!(drawn, 1..=99) && drawn != own { drawn } else { near[0] };
+    let other = other_letter(letter);
+    let (letter, address) = rng.pick(&[(other, own), (letter, address), (other, address)]);
+    put_head(rng, letter, address, text);
+}
+
+/// Appends `#` and five digits for an identifier.
+fn setting(rng: &mut Rng, world: &World, code: u8, text: &mut Vec<u8>) {
+    text.push(b'#');
+    let row = world.rows.iter().find(|row| row[0] == i32::from(code));
+    digits(rng, row, text);
+}
+
+/// Appends this identifier, or `?` in its place, and a body.
+fn body(rng: &mut Rng, world: &World, code: u8, text: &mut Vec<u8>) {
     let kind = rng.below(100);
     if kind < 8 {
         text.extend_from_slice(b"??");
-    } else {
-        text.push(code);
-        match kind {
-            8..=29 => text.push(b'?'),
-            30..=44 => text.push(b'+'),
-            45..=59 => text.push(b'-'),
-            60..=74 => text.push(b'I'),
-            75..=97 => {
-                text.push(b'#');
-                let row = world.rows.iter().find(|row| row[0] == i32::from(code));
-                digits(rng, row, text);
-            }
-            _ => text.extend((0..rng.below(8)).map(|_| other(rng))),
-        }
+        return;
     }
-    text.push(b'*');
+    text.push(code);
+    match kind {
+        8..=29 => text.push(b'?'),
+        30..=44 => text.push(b'+'),
+        45..=59 => text.push(b'-'),
+        60..=74 => text.push(b'I'),
+        75..=97 => setting(rng, world, code, text),
+        _ => text.extend((0..rng.below(8)).map(|_| other(rng))),
+    }
 }
 
-/// Appends a message on `]` with its `*`, most often the query.
-pub fn scan_message(rng: &mut Rng, world: &World, text: &mut Vec<u8>) {
-    head(rng, world, text);
+/// Appends `]` and a body, most often the query.
+fn scan_body(rng: &mut Rng, text: &mut Vec<u8>) {
     text.push(SCAN);
     match rng.below(10) {
         0 => text.push(b'+'),
@@ -113,6 +136,39 @@ pub fn scan_message(rng: &mut Rng, world: &World, text: &mut Vec<u8>) {
             digits(rng, None, text);
         }
         _ => text.push(b'?'),
+    }
+}
+
+/// Appends a message with its `*`, most often well formed and for the card.
+pub fn message(rng: &mut Rng, world: &World, text: &mut Vec<u8>) {
+    head(rng, world, text);
+    let code = identifier(rng, world);
+    body(rng, world, code, text);
+    text.push(b'*');
+}
+
+/// Appends a message on `]` with its `*`, most often the query.
+pub fn scan_message(rng: &mut Rng, world: &World, text: &mut Vec<u8>) {
+    head(rng, world, text);
+    scan_body(rng, text);
+    text.push(b'*');
+}
+
+/// Appends a message for another card with its `*`, most often well formed, and a Type 3 or a Type 4 for
+/// this identifier.
+pub fn neighbours_message(rng: &mut Rng, world: &World, code: u8, text: &mut Vec<u8>) {
+    neighbours_head(rng, world, text);
+    match rng.below(10) {
+        0..=2 => text.extend_from_slice(&[code, b'I']),
+        3..=5 => {
+            text.push(code);
+            setting(rng, world, code, text);
+        }
+        6 => scan_body(rng, text),
+        _ => {
+            let code = if rng.percent(50) { code } else { identifier(rng, world) };
+            body(rng, world, code, text);
+        }
     }
     text.push(b'*');
 }

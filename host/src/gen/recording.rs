@@ -1,7 +1,7 @@
 //! Recordings: messages one behind the other, with noise between and some of them spoiled.
 
 use super::message::other;
-use super::{message, on_line, scan_message, words_of, Rng, World};
+use super::{message, neighbours_message, on_line, reply, scan_message, scan_reply, words_of, Rng, World};
 
 /// Spoils one thing in the words of a message.
 pub fn edit(rng: &mut Rng, words: &mut Vec<u16>, from: usize) {
@@ -40,63 +40,101 @@ pub struct Mixture {
     /// Of a hundred places for one more message, how many hold one on `]`: before each message, and between a
     /// setting and its Type 4.
     pub scans: usize,
+    /// The same of messages for other cards and of replies; under 100, as one place can hold several. With
+    /// any, an offer that the card has from the start is followed by its Type 4, as a setting is.
+    pub neighbours: usize,
 }
 
 /// What a host might have recorded of a card without a scan.
-pub const REALISTIC: Mixture = Mixture { spoiled: 2, noise: 4, stored: 80, scans: 0 };
+pub const REALISTIC: Mixture = Mixture { spoiled: 2, noise: 4, stored: 80, scans: 0, neighbours: 0 };
 /// What looks for trouble.
-pub const ROUGH: Mixture = Mixture { spoiled: 25, noise: 20, stored: 60, scans: 10 };
+pub const ROUGH: Mixture = Mixture { spoiled: 25, noise: 20, stored: 60, scans: 10, neighbours: 15 };
+/// Several cards on one pair.
+pub const PAIR: Mixture = Mixture { spoiled: 3, noise: 4, stored: 85, scans: 5, neighbours: 55 };
 
-/// Appends a message, some of them spoiled.
-fn put(rng: &mut Rng, words: &mut Vec<u16>, text: &[u8], mixture: Mixture) {
-    let from = words.len();
-    words.extend(words_of(text));
-    if rng.percent(mixture.spoiled) {
-        edit(rng, words, from);
-    }
+/// A recording in the making.
+struct Tape<'w> {
+    world: &'w World,
+    mixture: Mixture,
+    words: Vec<u16>,
 }
 
-/// Appends a message on `]`, or nothing. With no scans in the mixture nothing is drawn, so that a recording
-/// without them stays as it is.
-fn put_scan(rng: &mut Rng, world: &World, words: &mut Vec<u16>, mixture: Mixture) {
-    if mixture.scans > 0 && rng.percent(mixture.scans) {
+impl Tape<'_> {
+    /// Appends a message, some of them spoiled.
+    fn put(&mut self, rng: &mut Rng, text: &[u8]) {
+        let from = self.words.len();
+        self.words.extend(words_of(text));
+        if rng.percent(self.mixture.spoiled) {
+            edit(rng, &mut self.words, from);
+        }
+    }
+
+    /// Appends what a place for one more message holds: one on `]`, and those for other cards, most often for
+    /// this identifier, with replies among them. With none in the mixture nothing is drawn, so that a
+    /// recording without them stays as it is.
+    fn put_others(&mut self, rng: &mut Rng, identifier: u8) {
         let mut text = Vec::new();
-        scan_message(rng, world, &mut text);
-        put(rng, words, &text, mixture);
+        if self.mixture.scans > 0 && rng.percent(self.mixture.scans) {
+            scan_message(rng, self.world, &mut text);
+            self.put(rng, &text);
+        }
+        while self.mixture.neighbours > 0 && rng.percent(self.mixture.neighbours) {
+            text.clear();
+            match rng.below(12) {
+                0 => text = reply(rng),
+                1 => text = scan_reply(rng),
+                _ => neighbours_message(rng, self.world, identifier, &mut text),
+            }
+            self.put(rng, &text);
+        }
+    }
+
+    /// Appends the Type 4 behind a setting or an offer: letter, address and identifier are its.
+    fn put_store(&mut self, rng: &mut Rng, head: &[u8]) {
+        if rng.percent(self.mixture.stored) {
+            self.put_others(rng, head[head.len() - 1]);
+            self.put(rng, &[head, b"I*"].concat());
+        }
+    }
+
+    fn put_noise(&mut self, rng: &mut Rng) {
+        for _ in 0..rng.below(6) {
+            self.words.push(match rng.below(4) {
+                0 => 256,
+                1 => u16::from(on_line(other(rng))),
+                2 => u16::from(on_line(rng.pick(b"LR*"))),
+                _ => rng.next() as u16 & 0xFF,
+            });
+        }
     }
 }
 
 /// A recording of exactly so many words, each 0 to 256.
 pub fn recording(rng: &mut Rng, world: &World, length: usize, mixture: Mixture) -> Vec<u16> {
-    let mut words = Vec::with_capacity(length + 64);
+    let mut tape = Tape { world, mixture, words: Vec::with_capacity(length + 64) };
     let mut text = Vec::new();
-    while words.len() < length {
+    // What was offered last.
+    let mut identifier = world.offered();
+    if mixture.neighbours > 0 && world.card[13] == 1 {
+        let head = format!("{}{}{}", world.card[0] as u8 as char, world.card[1], identifier as char);
+        tape.put_store(rng, head.as_bytes());
+    }
+    while tape.words.len() < length {
         if rng.percent(mixture.noise) {
-            for _ in 0..rng.below(6) {
-                words.push(match rng.below(4) {
-                    0 => 256,
-                    1 => u16::from(on_line(other(rng))),
-                    2 => u16::from(on_line(rng.pick(b"LR*"))),
-                    _ => rng.next() as u16 & 0xFF,
-                });
-            }
+            tape.put_noise(rng);
         }
-        put_scan(rng, world, &mut words, mixture);
+        tape.put_others(rng, identifier);
         text.clear();
         message(rng, world, &mut text);
-        put(rng, &mut words, &text, mixture);
+        tape.put(rng, &text);
         let hash = text.len().checked_sub(7).filter(|&at| text[at] == b'#' && at > 1);
         if let Some(hash) = hash {
-            if rng.percent(mixture.stored) {
-                put_scan(rng, world, &mut words, mixture);
-                let mut store = text[..hash].to_vec();
-                store.extend_from_slice(b"I*");
-                put(rng, &mut words, &store, mixture);
-            }
+            identifier = text[hash - 1];
+            tape.put_store(rng, &text[..hash]);
         }
     }
-    words.truncate(length);
-    words
+    tape.words.truncate(length);
+    tape.words
 }
 
 /// A recording of exactly so many words in which every fourth message queries the card's scan.

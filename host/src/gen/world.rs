@@ -1,7 +1,7 @@
 //! Sound rows, sheets and values, and a whole card with all that is lent beside it.
 
 use super::message::other;
-use super::{message, scan_message, Rng};
+use super::{message, neighbours_message, scan_message, Rng};
 
 pub type Row = [i32; 6];
 
@@ -160,13 +160,22 @@ impl World {
         }
     }
 
+    /// The identifier offered, or any where there is no offer.
+    pub fn offered(&self) -> u8 {
+        if self.card[13] == 1 {
+            self.card[14] as u8
+        } else {
+            b'm'
+        }
+    }
+
     /// Opens a message: most often one that the next `*` closes well.
     pub fn open(&mut self, rng: &mut Rng) {
         let mut text = Vec::new();
-        if rng.percent(15) {
-            scan_message(rng, self, &mut text);
-        } else {
-            message(rng, self, &mut text);
+        match rng.below(20) {
+            0..=2 => scan_message(rng, self, &mut text),
+            3..=5 => neighbours_message(rng, self, self.offered(), &mut text),
+            _ => message(rng, self, &mut text),
         }
         if text[0] != b'L' && text[0] != b'R' {
             text[0] = b'L';
@@ -182,6 +191,11 @@ impl World {
             _ => {}
         }
         text.truncate(10);
+        self.open_with(&text);
+    }
+
+    /// Opens a message of these characters, at most ten.
+    pub fn open_with(&mut self, text: &[u8]) {
         self.card[2] = text.len() as i32;
         for place in 0..10 {
             self.card[3 + place] = text.get(place).map_or(0, |&character| i32::from(character));

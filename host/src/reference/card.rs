@@ -92,7 +92,8 @@ impl Card {
     fn effect(&self, message: &Message, rows: &Rows, values: &[i32; VALUES]) -> Effect {
         let silence = Effect { value: None, offer: None, reply: None };
         if message.letter != self.letter || message.address != self.address {
-            return silence;
+            // Request 2: "the real card takes no notice of traffic for another letter or address".
+            return Effect { offer: self.offer, ..silence };
         }
         let identifier = message.identifier;
         if identifier == SCAN {

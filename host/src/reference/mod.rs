@@ -1,4 +1,4 @@
-//! Document 01 in plain Rust, and of document 02 request 1.
+//! Document 01 in plain Rust, and of document 02 requests 1 and 2.
 //!
 //! The typed calls are [`card::step`], [`card::run`], [`normal::normal_form`], [`message::write`],
 //! [`reply::read`], [`listing::line`] and [`sheet::lookup`]; [`calls`] has the same over numbers and

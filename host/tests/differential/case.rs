@@ -1,13 +1,15 @@
-//! One call with all that is lent: how it is printed, and how that line is read back.
+//! One case with all that is lent: how it is printed, and how that line is read back.
 
 use kavtziron_host::gen::World;
 use std::fmt::{Debug, Display, Write as _};
 
-/// One call with all that is lent. The rooms are filled with a pattern.
+/// One call with all that is lent. The rooms are filled with a pattern. `Ignored` is several calls: a
+/// recording, and what the card hears in it that is for itself, with room for every reply.
 #[derive(Clone, Debug, PartialEq)]
 pub(crate) enum Case {
     Step { world: Lent, word: u16, room: usize },
     Run { world: Lent, words: Vec<u16>, room: usize, counts: usize },
+    Ignored { world: Lent, words: Vec<u16> },
     NormalForm { words: Vec<u16>, room: usize },
     Write { asked: Asked, room: usize },
     Read { bytes: Vec<u8>, room: usize },
@@ -78,6 +80,7 @@ impl Display for Case {
             Case::Run { world, words, room, counts } => {
                 write!(f, "run {world} words={} room={room} counts={counts}", joined(words))
             }
+            Case::Ignored { world, words } => write!(f, "ignored {world} words={}", joined(words)),
             Case::NormalForm { words, room } => {
                 write!(f, "normal_form words={} room={room}", joined(words))
             }
@@ -122,19 +125,21 @@ pub(crate) fn parse(line: &str) -> Case {
         number: one(text("number")),
         decimals: one(text("decimals")),
     };
-    let room = one(text("room"));
+    let words = || list(text("words"));
+    let room = || one(text("room"));
     match name {
-        "step" => Case::Step { world: world(), word: one(text("word")), room },
-        "run" => Case::Run { world: world(), words: list(text("words")), room, counts: one(text("counts")) },
-        "normal_form" => Case::NormalForm { words: list(text("words")), room },
-        "write" => Case::Write { asked: asked(), room },
-        "read" => Case::Read { bytes: list(text("bytes")), room },
-        "line" => Case::Line { at: one(text("at")), asked: asked(), room },
+        "step" => Case::Step { world: world(), word: one(text("word")), room: room() },
+        "run" => Case::Run { world: world(), words: words(), room: room(), counts: one(text("counts")) },
+        "ignored" => Case::Ignored { world: world(), words: words() },
+        "normal_form" => Case::NormalForm { words: words(), room: room() },
+        "write" => Case::Write { asked: asked(), room: room() },
+        "read" => Case::Read { bytes: list(text("bytes")), room: room() },
+        "line" => Case::Line { at: one(text("at")), asked: asked(), room: room() },
         "lookup" => Case::Lookup {
             bench: list(text("bench")),
             maker: list(text("maker")),
             identifier: one(text("identifier")),
-            room,
+            room: room(),
         },
         _ => panic!("no call is named {name}"),
     }

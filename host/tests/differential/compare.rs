@@ -1,6 +1,7 @@
 //! Both sides of a case, with guards before and behind each buffer.
 
 use crate::case::{Asked, Case};
+use crate::ignored::ignored;
 use kavtziron_host::abi;
 use kavtziron_host::reference::calls;
 use std::fmt::Debug;
@@ -135,6 +136,7 @@ pub(crate) fn compare(case: &Case) -> Result<i64, String> {
             same("out", &outs[0], &outs[1])?;
             Ok(result)
         }
+        Case::Ignored { world, words } => ignored(world, words),
         Case::NormalForm { words, room } => {
             let mut outs = [Guarded::<u16>::room(*room), Guarded::room(*room)];
             let archive = abi::normal_form(words, outs[0].inside());

@@ -21,6 +21,8 @@ mod compare;
 #[cfg(kav_linked)]
 mod groups;
 #[cfg(kav_linked)]
+mod ignored;
+#[cfg(kav_linked)]
 mod running;
 
 #[cfg(not(kav_linked))]

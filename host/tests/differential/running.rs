@@ -62,7 +62,7 @@ fn smaller(mut failure: Failure) -> Failure {
     }
     let try_case = |case: Case| compare(&case).err().map(|what| Failure { what, case });
     let mut length = match &failure.case {
-        Case::Run { words, .. } | Case::NormalForm { words, .. } => words.len(),
+        Case::Run { words, .. } | Case::Ignored { words, .. } | Case::NormalForm { words, .. } => words.len(),
         _ => 0,
     };
     while length > 0 {
@@ -75,6 +75,9 @@ fn smaller(mut failure: Failure) -> Failure {
                     room: *room,
                     counts: *counts,
                 },
+                Case::Ignored { world, words } if from + length <= words.len() => {
+                    Case::Ignored { world: world.clone(), words: without(words, from, length) }
+                }
                 Case::NormalForm { words, room } if from + length <= words.len() => {
                     Case::NormalForm { words: without(words, from, length), room: *room }
                 }

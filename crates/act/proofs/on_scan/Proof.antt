@@ -1,20 +1,17 @@
 -- `act::on_scan` meets its contract: the test is the definition's. Assumes nothing.
 use mathlib.Core.Path.{sym, _∙_}
 use borrow.Author.Needs.{needs}
-use borrow.Author.Tests.{not-true, not-false}
 use Rattle.act.specs.Act.{addressed, onScan}
 use Rattle.act.proofs.on_scan.Statement.{statement}
 use Rattle.act.proofs.on_scan.Tie as tie
 
 returns : tie.Need-returns
 unfolding onScan addressed
-returns c = c .silent .ensures ∙ sym (rw (sym (c .before .before .is-for .ensures) ∙ not-true _ (c .before .if1 .taken)))
+returns c = c .serve-scan .ensures ∙ sym (rw (sym (c .before .before .is-for .ensures) ∙ c .before .if1 .taken))
 
 returns-2 : tie.Need-returns-2
 unfolding onScan addressed
-returns-2 c =
-    let t = c .before in
-    c .serve-scan .ensures ∙ sym (rw (sym (t .before .is-for .ensures) ∙ not-false _ (t .if1 .left)))
+returns-2 c = c .unmoved .ensures ∙ sym (rw (sym (c .before .before .is-for .ensures) ∙ c .before .if1 .left))
 
 pub on-scan-spec : {M : Type 1} → statement M
-on-scan-spec = tie.close (tie.spec (λ c κs. search needs) (λ c κs. search needs) returns (λ c κs. search needs) returns-2)
+on-scan-spec = tie.close (tie.spec (λ c κs. search needs) (λ c κs. search needs) (λ c κs. search needs) returns returns-2)

@@ -19,16 +19,18 @@ fn bench_cases() {
         ('h', "L7m#10031*", "L7m00201N*"),
         ('i', "L7J#00006*", "L7J00001I*"),
         ('j', "L7mI*", ""),
-        ('k', "L7m#00301*L8??*L7mI*", "L7m00301I*"),
+        // As request 2 corrects it.
+        ('k', "L7m#00301*L8??*L7mI*", "L7m00301I*L7m00301A*"),
         ('l', "L7Z?*", "L7Z00000N*"),
         ('m', "L7m#00304*L0??*L007M?*", ""),
         ('o', "L7Z#00150*", "L7Z00150I*"),
     ] {
         assert_eq!(from_afresh(sent), answer, "case {case}");
     }
-    let mut kept = values();
-    answers(&mut CARD.clone(), &mut kept, &words("L7m#00301*L8??*L7mI*"));
-    assert_eq!(kept, values(), "case k: m stays 20");
+    let (mut held, mut wanted) = (values(), values());
+    answers(&mut CARD.clone(), &mut held, &words("L7m#00301*L8??*L7mI*"));
+    wanted[usize::from(b'm')] = 30;
+    assert_eq!(held, wanted, "case k: m ends at 30");
     let mut full = values();
     full[usize::from(b'm')] = 1000;
     assert_eq!(answers(&mut CARD.clone(), &mut full, &words("L7m+*")), "L7m10001N*", "case n");
@@ -53,11 +55,11 @@ fn drops_keep_the_offer_and_clear_the_room() {
 
 #[test]
 fn what_takes_an_offer_away() {
-    for between in ["L7??*", "L7m?*", "L7m+*", "L7M+*", "L7m#00000*", "L7JI*", "L8mI*", "R7mI*", "R7??*"] {
+    for between in ["L7??*", "L7m?*", "L7m+*", "L7M+*", "L7m#00000*", "L7JI*", "L07??*", "L7??*L8mI*"] {
         let sent = format!("L7m#00301*{between}L7mI*");
         assert!(!from_afresh(&sent).ends_with("L7m00301A*"), "{between}");
     }
-    for between in ["", "L0mI*", "L7#00231*", "R7?+*"] {
+    for between in ["", "L0mI*", "L7#00231*", "R7?+*", "L8mI*", "R7mI*", "R7??*"] {
         let sent = format!("L7m#00301*{between}L7mI*");
         assert!(from_afresh(&sent).ends_with("L7m00301A*"), "{between}");
     }

@@ -6,6 +6,7 @@ mod card;
 mod hearing;
 mod listing;
 mod message;
+mod neighbours;
 mod refusals;
 mod scan;
 mod sheet;

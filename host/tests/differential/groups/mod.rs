@@ -1,6 +1,7 @@
 //! The groups of cases, what they hand them to, and what several of them draw.
 
 mod lookup;
+mod neighbours;
 mod normal_form;
 mod read;
 mod run;
@@ -12,6 +13,7 @@ use crate::case::Case;
 use crate::compare::compare;
 use kavtziron_host::gen::{self, Mixture, Rng, World};
 use lookup::{lookup_every, lookup_random};
+use neighbours::{neighbours_ignored, neighbours_messages, neighbours_run, neighbours_walk};
 use normal_form::{normal_form_long, normal_form_random, normal_form_rooms};
 use read::{read_babble, read_edits, read_every, read_random, read_scans};
 use run::{every_data, every_pair, run_in_parts, run_long, run_random, run_rooms, wrong_word_behind};
@@ -73,7 +75,7 @@ fn room_near(rng: &mut Rng, limit: usize) -> usize {
 }
 
 fn some_words(rng: &mut Rng, world: &World, length: usize) -> Vec<u16> {
-    match rng.below(6) {
+    match rng.below(7) {
         0 => gen::babble(rng, length),
         1 => gen::recording(rng, world, length, Mixture { scans: 20, ..gen::REALISTIC }),
         2 => {
@@ -81,6 +83,7 @@ fn some_words(rng: &mut Rng, world: &World, length: usize) -> Vec<u16> {
             gen::edit(rng, &mut words, 0);
             words
         }
+        3 => gen::recording(rng, world, length, gen::PAIR),
         _ => gen::recording(rng, world, length, gen::ROUGH),
     }
 }
@@ -98,6 +101,10 @@ pub(crate) const GROUPS: &[Group] = &[
     Group { name: "run: wrong word behind the stop", numbers: 5_000, random: true, make: wrong_word_behind },
     Group { name: "step and run: messages on ]", numbers: 4_000, random: true, make: scan_messages },
     Group { name: "step and run: unsound scans", numbers: 5_000, random: true, make: scan_broken },
+    Group { name: "step and run: neighbours", numbers: 2_500, random: true, make: neighbours_messages },
+    Group { name: "step: neighbours word by word", numbers: 4_000, random: true, make: neighbours_walk },
+    Group { name: "run: neighbours", numbers: 15_000, random: true, make: neighbours_run },
+    Group { name: "run: neighbours ignored", numbers: 40_000, random: true, make: neighbours_ignored },
     Group { name: "run and normal form: every data", numbers: 100_000, random: false, make: every_data },
     Group { name: "run and normal form: every pair", numbers: 1 << 14, random: false, make: every_pair },
     Group { name: "normal form: random", numbers: 150_000, random: true, make: normal_form_random },

@@ -5,7 +5,8 @@ use crate::case::{Case, Lent};
 use kavtziron_host::gen::{self, Rng, World};
 use kavtziron_host::reference::calls;
 
-fn bytes_of_run(lent: &Lent, words: &[u16]) -> usize {
+/// How many bytes the replies to all the words have.
+pub(super) fn bytes_of_run(lent: &Lent, words: &[u16]) -> usize {
     let (mut card, mut values) = (lent.card.clone(), lent.values.clone());
     let mut out = vec![0; words.len() * 7 + 33];
     let mut counts = [0; 2];
@@ -52,11 +53,15 @@ pub(crate) fn run_long(rng: &mut Rng, _: u64, bench: &mut Bench) -> Checked {
     Ok(())
 }
 
-/// Stopped runs go on from where they stopped, through both sides.
 pub(crate) fn run_in_parts(rng: &mut Rng, _: u64, bench: &mut Bench) -> Checked {
-    let mut world = World::new(rng);
+    let world = World::new(rng);
     let length = 20 + rng.below(100);
     let words = gen::recording(rng, &world, length, gen::ROUGH);
+    in_parts(rng, world, &words, bench)
+}
+
+/// Stopped runs go on from where they stopped, through both sides.
+pub(super) fn in_parts(rng: &mut Rng, mut world: World, words: &[u16], bench: &mut Bench) -> Checked {
     let mut from = 0;
     for _ in 0..40 {
         let end = from + rng.below(words.len() - from + 1);

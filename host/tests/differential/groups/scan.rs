@@ -7,10 +7,7 @@ use kavtziron_host::gen::{self, Rng, World};
 /// Opens a message for the card with this identifier and body.
 fn ask(world: &mut World, body: &str) {
     let text = format!("{}{}]{body}", world.card[0] as u8 as char, world.card[1]);
-    world.card[2] = text.len() as i32;
-    for place in 0..10 {
-        world.card[3 + place] = text.as_bytes().get(place).map_or(0, |&character| i32::from(character));
-    }
+    world.open_with(text.as_bytes());
 }
 
 /// Each message on `]`, for cards that name none, four or five: how long the reply is is known, and with

@@ -53,12 +53,16 @@ pub(crate) fn step_spoiled(rng: &mut Rng, _: u64, bench: &mut Bench) -> Checked 
     Ok(())
 }
 
-/// A recording word by word: the card and values that each step leaves go to the next.
 pub(crate) fn step_walk(rng: &mut Rng, _: u64, bench: &mut Bench) -> Checked {
-    let mut world = World::new(rng);
+    let world = World::new(rng);
     let length = 10 + rng.below(50);
     let words = gen::recording(rng, &world, length, gen::ROUGH);
-    for word in words {
+    walk(rng, world, &words, bench)
+}
+
+/// A recording word by word: the card and values that each step leaves go to the next.
+pub(super) fn walk(rng: &mut Rng, mut world: World, words: &[u16], bench: &mut Bench) -> Checked {
+    for &word in words {
         let room = 33 + rng.below(2);
         let lent: Lent = world.clone().into();
         bench.check(Case::Step { world: lent, word, room })?;
