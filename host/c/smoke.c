@@ -70,8 +70,8 @@ int main(void) {
     values['Z'] = 15;
     values['m'] = 20;
 
-    /* Bench case e, with an address of two digits before and a message for another card behind. */
-    size_t length = words_of("xL07m#00231*L7mI*R7??*", words);
+    /* Bench case e, with an address of two digits before and a message for another card between. */
+    size_t length = words_of("xL07m#00231*R7??*L7mI*", words);
     check("run", kav_run(card, KAV_CARD, bench, bench_length, maker, 0, values, KAV_VALUES,
                          words, length, out, sizeof out, counts, 2), 0);
     check("words taken", (int64_t)counts[0], (int64_t)length);

@@ -1,5 +1,6 @@
--- What a message leads to, by its type and by whether it is on `]`. What is on offer after it: only a Type 3 leaves an offer, the cut of
--- its number for its identifier, where the row is not read only and the number is in range. And such a Type 3 does leave it. Assumes nothing.
+-- What a message leads to, by its type and by whether it is on `]`. What is on offer after one for this card: only a Type 3 leaves an
+-- offer, the cut of its number for its identifier, where the row is not read only and the number is in range. And such a Type 3 does leave
+-- it. One for another card leaves all as it was. Assumes nothing.
 use mathlib.Core.Path.{_≡_, refl, sym, ap, _∙_}
 use mathlib.Core.Bool.{true, false, _&&_, _||_}
 use mathlib.Core.List.{List, [], _∷_, map}
@@ -30,9 +31,9 @@ use Rattle.act.specs.declared.Offer.{Offer}
 use Rattle.act.specs.declared.Offer.the-variants.{Nothing, Held}
 use Rattle.act.specs.declared.Said.the-variants.{Reply}
 use Rattle.act.specs.declared.Effect.{Effect}
-use Rattle.act.specs.Act.{unmoved, answerTo, noNumber, says, accepts, shownBy, declines, query, moves, up, down, offers, setTo, decimalsOf, store, serve, named, namesFrom, valueOf, scanOf, declinesScan, serveScan, isFor, ours, addressed, onScan, onRow, respond, act}
+use Rattle.act.specs.Act.{noEffect, answerTo, noNumber, says, accepts, shownBy, declines, query, moves, up, down, offers, setTo, decimalsOf, store, serve, named, namesFrom, valueOf, scanOf, declinesScan, serveScan, isFor, ours, addressed, onScan, onRow, respond, act}
 
--- the message m leaves the value z on offer for the identifier i
+-- the message m, at the card that it is for, leaves the value z on offer for the identifier i
 pub record Leaves (bench maker : List ℤ) (m : Message) (i : ℕ) (z : ℤ) : Type 0 where
   pub row : Row
   pub number : Decimal
@@ -43,7 +44,7 @@ pub record Leaves (bench maker : List ℤ) (m : Message) (i : ℕ) (z : ℤ) : T
   pub in-range : inRange (row .least) (number .number) (row .greatest) ≡ true
   pub value : cut (number .number) (row .step) ≡ z
 
--- ---- whatever the message and the card
+-- ---- whatever the message, by whether it is for this card
 
 module _ (bench maker : List ℤ) (m : Message) where
   abbrev Left : Effect → Type 0
@@ -131,9 +132,9 @@ module _ (bench maker : List ℤ) (m : Message) where
       rw t (choice Left (eqb (m .identifier) scanIdentifier) (λ u. left-scan c _ (m .body)) (λ u. left-serve o (getD values (m .identifier) (pos 0)) (m .body) refl))
 
   -- at any other
-  pub act-neighbour : (c : Setup) (o : Offer) (values : List ℤ) → isFor c m ≡ false → act bench maker c o values m ≡ unmoved o
+  pub act-neighbour : (c : Setup) (o : Offer) (values : List ℤ) → isFor c m ≡ false → act bench maker c o values m ≡ noEffect o
   unfolding act respond onScan onRow addressed
-  act-neighbour c o values t = rw t (choice (λ (x : Effect). x ≡ unmoved o) (eqb (m .identifier) scanIdentifier) (λ u. refl) (λ u. refl))
+  act-neighbour c o values t = rw t (choice (λ (x : Effect). x ≡ noEffect o) (eqb (m .identifier) scanIdentifier) (λ u. refl) (λ u. refl))
 
 -- ---- the values that a card names
 

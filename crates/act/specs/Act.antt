@@ -1,4 +1,5 @@
--- What a card does with a heard message: what it says, the offer afterwards, and what is stored. Document 01, "What the card does".
+-- What a card does with a heard message: what it says, the offer afterwards, and what is stored. Document 01, "What the card does",
+-- as document 02, tickets 1 and 2, change it.
 -- Up to "the scan", e is the entry of the message's identifier in the sheets and v the value stored for it; behind it they give these for
 -- every identifier.
 use mathlib.Core.Bool.{Bool, cond, _&&_}
@@ -31,13 +32,13 @@ use Rattle.act.specs.declared.Store.{Store}
 use Rattle.act.specs.declared.Store.the-variants.{Keep, Put}
 use Rattle.act.specs.declared.Effect.{Effect}
 
--- silence, the offer as it was, nothing stored
-abbrev pub unmoved : Offer → Effect
-unmoved o = record { said = Silence; offer = o; store = Keep }
+-- "no answer, no effect": silence, the offer as it was, nothing stored
+abbrev pub noEffect : Offer → Effect
+noEffect o = record { said = Silence; offer = o; store = Keep }
 
 -- silence, offer gone
 abbrev pub silent : Effect
-silent = unmoved Nothing
+silent = noEffect Nothing
 
 -- an answer to this message
 abbrev pub answerTo : Message → Mark → Content → Answer
@@ -160,7 +161,7 @@ isFor c m = eqb (m .letter) (c .letter) && eqb (m .address) (c .address)
 
 -- document 02, ticket 2: "the real card takes no notice of traffic for another letter or address"
 unfoldable pub addressed : Setup → Offer → Message → Effect → Effect
-addressed c o m x = cond (isFor c m) x (unmoved o)
+addressed c o m x = cond (isFor c m) x (noEffect o)
 
 -- e gives the entry of each identifier, and v the value stored at its place: a message on `]`
 unfoldable pub onScan : Setup → Offer → (ℕ → Entry) → (ℕ → ℤ) → Message → Effect

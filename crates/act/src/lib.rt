@@ -4,7 +4,7 @@ ghost use lib.IntN.{pos};
 ghost use lib.ListN.{getD};
 ghost use Rattle.number.specs.Data.{withDecimals};
 ghost use Rattle.sheet.specs.Inner.{entryAt};
-ghost use Rattle.act.specs.Act.{unmoved, silent, answerTo, says, accepts, shownBy, declines, query, moves, up, down, offers, setTo, decimalsOf, store, serve, valueOf, scanOf, declinesScan, serveScan, isFor, onScan, onRow};
+ghost use Rattle.act.specs.Act.{noEffect, silent, answerTo, says, accepts, shownBy, declines, query, moves, up, down, offers, setTo, decimalsOf, store, serve, valueOf, scanOf, declinesScan, serveScan, isFor, onScan, onRow};
 use message::Body;
 use message::Message;
 use number::Decimal;
@@ -51,8 +51,8 @@ pub struct Effect {
 }
 
 // Silence, the offer as it was, nothing stored.
-pub fn unmoved(offer: Offer) -> Effect
-    ensures { λ r. ⌜ r ≡ unmoved offer ⌝ }
+pub fn no_effect(offer: Offer) -> Effect
+    ensures { λ r. ⌜ r ≡ noEffect offer ⌝ }
 {
     Effect {
         said: Said::Silence,
@@ -65,7 +65,7 @@ pub fn unmoved(offer: Offer) -> Effect
 fn silent() -> Effect
     ensures { λ r. ⌜ r ≡ silent ⌝ }
 {
-    unmoved(Offer::Nothing)
+    no_effect(Offer::Nothing)
 }
 
 fn answer_to(message: Message, mark: Mark, content: Content) -> Answer
@@ -362,7 +362,7 @@ pub fn on_scan<'a>(
     if is_for(setup, message) {
         serve_scan(setup, bench, maker, places, values, message)
     } else {
-        unmoved(offer)
+        no_effect(offer)
     }
 }
 
@@ -379,7 +379,7 @@ pub fn on_row<'a>(
     ensures { λ r. ⌜ r ≡ onRow setup offer (entryAt (now (bench .entry)) (now (maker .entry)) (now (places .entry))) (λ i. getD (now (values .entry)) i (pos 0)) message ⌝ }
 {
     if !is_for(setup, message) {
-        return unmoved(offer);
+        return no_effect(offer);
     }
     let identifier = message.identifier;
     let entry = sheet::find_at(bench, maker, places, identifier);

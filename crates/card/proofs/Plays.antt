@@ -1,5 +1,6 @@
 -- To play words is to obey the messages heard in them, so a recording and its normal form, in which the same messages are heard, leave
--- the same. And a run with room for every reply is a play of all the words. Assumes nothing.
+-- the same, and so do two recordings with the same messages for this card. And a run with room for every reply is a play of all the words.
+-- Assumes nothing.
 use mathlib.Core.Path.{_≡_, refl, sym, ap, _∙_}
 use mathlib.Core.Bool.{cond}
 use mathlib.Core.List.{List, [], _∷_, _++_}

@@ -157,7 +157,7 @@ module _ (c : Card) (bench maker values : List ℤ) (ws out : List ℕ) where
 
 -- ---- what a word that is served leaves, as the code has it
 
--- a word that has closed no heard message
+-- a word that draws nothing and stores nothing
 pub quiet-answered : (c : Card) (values : List ℤ) (out : List ℕ) → record { card = c; outcome = gave 0; values = values; buffer = out } ≡ answered (stays c) values out
 unfolding stored
 quiet-answered c values out = λ j. record { card = c; outcome = gave 0; values = values; buffer = sym (laid-nothing out) j }

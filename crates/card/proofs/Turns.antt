@@ -31,18 +31,14 @@ use Rattle.act.specs.declared.Said.{Said}
 use Rattle.act.specs.declared.Said.the-variants.{Silence, Reply}
 use Rattle.act.specs.declared.Effect.{Effect}
 use Rattle.act.specs.declared.Store.the-variants.{Keep}
-use Rattle.act.specs.Act.{unmoved, isFor, onScan, onRow, respond, act}
+use Rattle.act.specs.Act.{noEffect, isFor, onScan, onRow, respond, act}
 use Rattle.act.proofs.OnOffer.{act-neighbour, scan-responds, row-responds}
 use Rattle.card.specs.declared.Card.{Card}
-use Rattle.card.specs.Turn.{Turn, replyOf, effectOf, withBoth, turned, turn, stored}
+use Rattle.card.specs.Turn.{Turn, replyOf, effectOf, withBoth, turned, turn}
 
--- a word that has closed no heard message
+-- a word that draws nothing and stores nothing
 abbrev pub stays : Card → Turn
 stays c = record { card = c; reply = []; store = Keep }
-
-pub nothing-stored : (values : List ℤ) → stored values Keep ≡ values
-unfolding stored
-nothing-stored values = refl
 
 -- document 02, ticket 1: "Longest reply becomes 33 bytes"
 pub reply-length : (s : Said) → length (replyOf s) ≤ longestReply
@@ -58,7 +54,7 @@ module _ (bench maker : List ℤ) where
     unfolding effectOf
     effect-heard m = refl
 
-    pub effect-unheard : unmoved o ≡ effectOf bench maker s o values Unheard
+    pub effect-unheard : noEffect o ≡ effectOf bench maker s o values Unheard
     unfolding effectOf
     effect-unheard = refl
 
@@ -126,7 +122,7 @@ module _ (bench maker : List ℤ) where
         let p = heard-closes (c .pending) w m e in
         ap (λ (o : Parsed). turned c (hear (c .pending) w .pending) (effects o)) e
         ∙ ap (turned c (hear (c .pending) w .pending)) (effect-heard (c .setup) (c .offer) values m ∙ act-neighbour bench maker m (c .setup) (c .offer) values t)
-        ∙ ap (λ (q : Pending). turned c q (unmoved (c .offer))) p
+        ∙ ap (λ (q : Pending). turned c q (noEffect (c .offer))) p
 
     -- ---- a word by what it does
 

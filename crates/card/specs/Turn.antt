@@ -19,7 +19,7 @@ use Rattle.act.specs.declared.Said.the-variants.{Silence, Reply}
 use Rattle.act.specs.declared.Store.{Store}
 use Rattle.act.specs.declared.Store.the-variants.{Keep, Put}
 use Rattle.act.specs.declared.Effect.{Effect}
-use Rattle.act.specs.Act.{unmoved, act}
+use Rattle.act.specs.Act.{noEffect, act}
 
 -- ---- one word
 
@@ -37,7 +37,7 @@ replyOf (Reply a) = travelling (spellAnswer a)
 -- document 01: "Anything not well formed is unheard: no answer, no effect"
 unfoldable pub effectOf : List ℤ → List ℤ → Setup → Offer → List ℤ → Parsed → Effect
 effectOf bench maker s o values (Heard m) = act bench maker s o values m
-effectOf bench maker s o values Unheard = unmoved o
+effectOf bench maker s o values Unheard = noEffect o
 
 -- the card with another open message and offer
 abbrev pub withBoth : Card → Pending → Offer → Card

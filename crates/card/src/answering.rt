@@ -62,7 +62,7 @@ fn scan_effect<'a>(
     ensures { λ r. ⌜ r ≡ effectOf (now (bench .entry)) (now (maker .entry)) setup offer (now (values .entry)) parsed ⌝ }
 {
     let Parsed::Heard(message) = parsed else {
-        return act::unmoved(offer);
+        return act::no_effect(offer);
     };
     act::on_scan(setup, offer, bench, maker, places, values, message)
 }
@@ -81,7 +81,7 @@ fn effect_of<'a>(
     ensures { λ r. ⌜ r ≡ effectOf (now (bench .entry)) (now (maker .entry)) setup offer (now (values .entry)) parsed ⌝ }
 {
     let Parsed::Heard(message) = parsed else {
-        return act::unmoved(offer);
+        return act::no_effect(offer);
     };
     act::on_row(setup, offer, bench, maker, places, values, message)
 }

@@ -45,7 +45,7 @@ use Rattle.demands.specs.Demand2.{LeftBy, OfferReachable, NotAbove, Neve
 use Rattle.demands.proofs.Words.{taken}
 use Rattle.demands.proofs.Possible.{cardFor, for-itself, room, star-valid, card-sound}
 
--- ---- what a word that closes a message leaves on offer
+-- ---- what a word that closes a message for this card leaves on offer
 
 module _ (bench maker : List ℤ) (c : Card) (values : List ℤ) (w : ℕ) (m : Message) (h : hear (c .pending) w .message ≡ Heard m) where
   turn-offer : turn bench maker c values w .card .offer ≡ act bench maker (c .setup) (c .offer) values m .offer
@@ -54,7 +54,7 @@ module _ (bench maker : List ℤ) (c : Card) (values : List ℤ) (w : ℕ) (m : 
       ∙ ap (λ (p : Parsed). effects bench maker c values p .offer) h
       ∙ ap (λ (x : Effect). x .offer) (effect-heard bench maker (c .setup) (c .offer) values m)
 
-  call-leaves : isFor (c .setup) m ≡ true → (out : List ℕ) (k i : ℕ) (z : ℤ) → stepCall c bench maker values w out .outcome ≡ gave k → stepCall c bench maker values w out .card .offer ≡ Held i z → Leaves bench maker m i z
+  pub call-leaves : isFor (c .setup) m ≡ true → (out : List ℕ) (k i : ℕ) (z : ℤ) → stepCall c bench maker values w out .outcome ≡ gave k → stepCall c bench maker values w out .card .offer ≡ Held i z → Leaves bench maker m i z
   call-leaves t out k i z g l =
       act-leaves bench maker m (c .setup) (c .offer) values t i z
       (sym turn-offer ∙ sym (ap (λ (a : After ℕ). a .card .offer) (served-step c bench maker values w out k g .leaves)) ∙ l)

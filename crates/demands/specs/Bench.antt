@@ -1,4 +1,4 @@
--- The bench cases of document 01 and the scan of document 02 as tables: each case its exchanges, message by message, and the value of m
+-- The bench cases of document 01, the scan and the neighbours of document 02 as tables: each case its exchanges, message by message, and the value of m
 -- before and after.
 use mathlib.Core.Bool.{Bool, false, _&&_}
 use mathlib.Core.List.{List, [], _∷_, _++_}

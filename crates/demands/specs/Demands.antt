@@ -20,6 +20,7 @@ pub record Demands : Type 0 where
   -- cases a to l, and the second table
   pub bench : every passes benchCases ≡ true
   pub more : every passes moreCases ≡ true
+  -- the twenty messages of that table are heard
   pub twenty-heard : length (heard (travelling (chars twentyNeighbours))) ≡ 20
   -- the scan
   pub scan : every passesScan scanCases ≡ true

@@ -1,9 +1,8 @@
--- With no message open it does not matter what stands where an open message would: the same messages are heard. So behind a silence,
--- and a word with which a message is heard leaves none open. Assumes nothing.
+-- With no message open it does not matter what stands where an open message would: the same messages are heard. A silence drops what is
+-- open, so behind it the same is heard as with none open. And a word with which a message is heard leaves none open. Assumes nothing.
 use mathlib.Core.Path.{_≡_, refl, sym, ap, _∙_}
 use mathlib.Core.List.{List, [], _∷_}
 use Prim.Native.Nat.{ℕ}
-use native.Mathlib.Omega.{arith}
 use borrow.Author.Tests.{eq-eqb, eqb-true}
 use lib.Dec.{eqb}
 use Rattle.refusal.proofs.Logic.{choice, by-test}
@@ -13,6 +12,7 @@ use Rattle.wire.specs.Word.{received}
 use Rattle.message.specs.declared.Message.{Message}
 use Rattle.message.specs.declared.Parsed.the-variants.{Heard, Unheard}
 use Rattle.message.specs.Message.{isLetter}
+use Rattle.message.proofs.Short.{unheard}
 use Rattle.hearing.specs.declared.Pending.{Pending}
 use Rattle.hearing.specs.declared.Action.{Action}
 use Rattle.hearing.specs.declared.Action.the-variants.{Ignore, Open, Add, Close, Drop}
@@ -52,9 +52,6 @@ heard-silence p ws =
     by-test (eqb (p .len) 0)
     (λ t. rw t (heard-closed p (eqb-true (p .len) 0 t) ws))
     (λ t. rw t)
-
-unheard : {m : Message} → Unheard ≡ Heard m → ⊥
-unheard e = let z : _≡_ {A = ℕ} 0 1 = cc in omega arith
 
 -- a message is heard with the word that closes it
 performed : (p : Pending) (a : Action) (m : Message) → perform p a .message ≡ Heard m → perform p a .pending ≡ none

@@ -112,7 +112,7 @@ at-end s (c ∷ cs) n h =
     let e : suc n + length cs ≡ n + suc (length cs) = omega arith in
     subst (AtLeast (extendAll (extend s c) cs)) e (at-end (extend s c) cs (suc n) (at-step s c n h))
 
-unheard : {m : Message} → Unheard ≡ Heard m → ⊥
+pub unheard : {m : Message} → Unheard ≡ Heard m → ⊥
 unheard e = let z : _≡_ {A = ℕ} 0 1 = cc in omega arith
 
 heard-short : (s : Prefix) (n : ℕ) → AtLeast s n → (m : Message) → finish s ≡ Heard m → length (spellOpen m) ≤ n

@@ -48,21 +48,27 @@ impl Side {
         Ok(Played { replies, values, offer: [card[13], card[14], card[15]] })
     }
 
+    /// The count of what a writer wrote, which may not refuse.
+    fn count(&self, result: i64) -> Result<usize, String> {
+        usize::try_from(result).map_err(|_| format!("{}: a writer gave {result}", self.name))
+    }
+
     /// Appends a message as the writer spells it.
-    fn spell(&self, message: &Message, words: &mut Vec<u16>) {
+    fn spell(&self, message: &Message, words: &mut Vec<u16>) -> Result<(), String> {
         let Message { letter, address, identifier, kind } = *message;
         let Data { number, decimals } = if let Kind::Set(data) = kind { data } else { Data::ZERO };
         let mut out = [0; 11];
         let (address, decimals) = (u32::from(address), u32::from(decimals));
         let length = (self.write)(letter, address, identifier, kind.sign(), number, decimals, &mut out);
-        words.extend(out.iter().take(length.max(0) as usize).map(|&byte| u16::from(byte)));
+        words.extend(out[..self.count(length)?].iter().map(|&byte| u16::from(byte)));
+        Ok(())
     }
 
-    fn normal_form(&self, words: &[u16]) -> Vec<u16> {
+    fn normal_form(&self, words: &[u16]) -> Result<Vec<u16>, String> {
         let mut out = vec![0; words.len()];
         let length = (self.normal_form)(words, &mut out);
-        out.truncate(length.max(0) as usize);
-        out
+        out.truncate(self.count(length)?);
+        Ok(out)
     }
 }
 
@@ -85,10 +91,12 @@ pub(crate) fn ignored(world: &Lent, words: &[u16]) -> Result<i64, String> {
     for side in &SIDES {
         let whole = side.play(world, words)?;
         let mut alone = vec![256];
-        own.iter().for_each(|message| side.spell(message, &mut alone));
+        for message in &own {
+            side.spell(message, &mut alone)?;
+        }
         let mut others = vec![("its messages alone", alone)];
         if card.open.length == 0 {
-            others.push(("the normal form", side.normal_form(words)));
+            others.push(("the normal form", side.normal_form(words)?));
         }
         for (what, other) in others {
             let played = side.play(world, &other)?;

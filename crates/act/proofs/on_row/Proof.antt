@@ -11,7 +11,7 @@ use Rattle.act.proofs.on_row.Tie as tie
 
 returns : tie.Need-returns
 unfolding onRow addressed
-returns c = c .unmoved .ensures ∙ sym (rw (sym (c .before .before .is-for .ensures) ∙ not-true _ (c .before .if1 .taken)))
+returns c = c .no-effect .ensures ∙ sym (rw (sym (c .before .before .is-for .ensures) ∙ not-true _ (c .before .if1 .taken)))
 
 returns-2 : tie.Need-returns-2
 unfolding onRow addressed

@@ -11,7 +11,7 @@ returns c = c .serve-scan .ensures ∙ sym (rw (sym (c .before .before .is-for .
 
 returns-2 : tie.Need-returns-2
 unfolding onScan addressed
-returns-2 c = c .unmoved .ensures ∙ sym (rw (sym (c .before .before .is-for .ensures) ∙ c .before .if1 .left))
+returns-2 c = c .no-effect .ensures ∙ sym (rw (sym (c .before .before .is-for .ensures) ∙ c .before .if1 .left))
 
 pub on-scan-spec : {M : Type 1} → statement M
 on-scan-spec = tie.close (tie.spec (λ c κs. search needs) (λ c κs. search needs) (λ c κs. search needs) returns returns-2)

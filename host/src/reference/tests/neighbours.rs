@@ -133,7 +133,9 @@ fn a_neighbours_scan() {
 #[test]
 fn addresses_of_two_digits() {
     // 07 is 7; 08, 17, 70 and 77 are others.
-    for (sent, ours) in [("L07mI*", true), ("L08mI*", false), ("L17mI*", false), ("L70mI*", false)] {
+    let heads =
+        [("L07mI*", true), ("L08mI*", false), ("L17mI*", false), ("L70mI*", false), ("L77mI*", false)];
+    for (sent, ours) in heads {
         let wanted = if ours { "L7m00301A*" } else { "" };
         assert_eq!(answers(&mut OFFERED.clone(), &mut values(), &words(sent)), wanted, "{sent}");
     }

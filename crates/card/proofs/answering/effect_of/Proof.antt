@@ -12,7 +12,7 @@ returns c =
     let t = c .before in
     let s = t .before .before .before in
     let a = s .args in
-    c .unmoved .ensures
+    c .no-effect .ensures
     ∙ effect-unheard (a .bench .now) (a .maker .now) (a .setup) (a .offer) (a .values .now)
     ∙ ap (effectOf (a .bench .now) (a .maker .now) (a .setup) (a .offer) (a .values .now)) (sym (t .enum-told .given .1))
 
