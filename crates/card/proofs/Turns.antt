@@ -3,7 +3,7 @@ use mathlib.Core.Path.{_≡_, refl, sym, ap, _∙_, subst}
 use mathlib.Core.Bool.{true, false}
 use mathlib.Core.List.{List, []}
 use Prim.Native.Nat.{ℕ, _≤_}
-use lib.Dec.{eqb, lit≤}
+use lib.Dec.{lit≤}
 use lib.IntN.{ℤ, pos}
 use lib.ListN.{length, getD}
 use Rattle.wire.specs.Word.{travelling}
@@ -13,7 +13,7 @@ use Rattle.sheet.specs.Values.{entryIn}
 use Rattle.sheet.specs.Inner.{entryAt, indexOf}
 use Rattle.sheet.proofs.Marks.{index-entry}
 use Rattle.reply.specs.declared.Answer.{Answer}
-use Rattle.reply.specs.Reply.{longestReply, scanIdentifier, spellAnswer}
+use Rattle.reply.specs.Reply.{longestReply, spellAnswer}
 use Rattle.reply.proofs.Spelled.{answer-length}
 use Rattle.message.specs.declared.Parsed.{Parsed}
 use Rattle.message.specs.declared.Parsed.the-variants.{Heard, Unheard}
@@ -34,6 +34,7 @@ use Rattle.act.specs.declared.Store.the-variants.{Keep}
 use Rattle.act.specs.Act.{noEffect, isFor, onScan, onRow, respond, act}
 use Rattle.act.proofs.OnOffer.{act-neighbour, scan-responds, row-responds}
 use Rattle.card.specs.declared.Card.{Card}
+use Rattle.card.specs.Inner.{isScan}
 use Rattle.card.specs.Turn.{Turn, replyOf, effectOf, withBoth, turned, turn}
 
 -- a word that draws nothing and stores nothing
@@ -54,9 +55,10 @@ module _ (bench maker : List ℤ) where
     unfolding effectOf
     effect-heard m = refl
 
-    pub effect-unheard : noEffect o ≡ effectOf bench maker s o values Unheard
+    -- what was not heard has none
+    pub effect-unheard : (p : Parsed) → p ≡ Unheard → noEffect o ≡ effectOf bench maker s o values p
     unfolding effectOf
-    effect-unheard = refl
+    effect-unheard p h = ap (effectOf bench maker s o values) (sym h)
 
     -- under sound sheets the index gives the entries
     effect-index : (places : List ℕ) (m : Message) → soundSheet bench ≡ true → soundSheet maker ≡ true → places ≡ indexOf bench maker
@@ -66,14 +68,18 @@ module _ (bench maker : List ℤ) where
         let each : (i : ℕ) → entryAt bench maker places i ≡ entryIn bench maker i = λ i. ap (λ (l : List ℕ). entryAt bench maker l i) e ∙ index-entry bench maker i b k in
         λ j. respond s o (λ (i : ℕ). each i j) (λ (i : ℕ). getD values i (pos 0)) m
 
-    module _ (places : List ℕ) (m : Message) (b : soundSheet bench ≡ true) (k : soundSheet maker ≡ true) (e : places ≡ indexOf bench maker) where
-      pub effect-scan : eqb (m .identifier) scanIdentifier ≡ true
-          → onScan s o (entryAt bench maker places) (λ (i : ℕ). getD values i (pos 0)) m ≡ effectOf bench maker s o values (Heard m)
-      effect-scan q = scan-responds s o (entryAt bench maker places) (λ (i : ℕ). getD values i (pos 0)) m q ∙ effect-index places m b k e
+    -- what was heard, by whether it is on `]`
+    module _ (places : List ℕ) (p : Parsed) (m : Message) (h : p ≡ Heard m) (b : soundSheet bench ≡ true) (k : soundSheet maker ≡ true) (e : places ≡ indexOf bench maker) where
+      indexed : respond s o (entryAt bench maker places) (λ (i : ℕ). getD values i (pos 0)) m ≡ effectOf bench maker s o values p
+      indexed = effect-index places m b k e ∙ ap (effectOf bench maker s o values) (sym h)
 
-      pub effect-row : eqb (m .identifier) scanIdentifier ≡ false
-          → onRow s o (entryAt bench maker places) (λ (i : ℕ). getD values i (pos 0)) m ≡ effectOf bench maker s o values (Heard m)
-      effect-row q = row-responds s o (entryAt bench maker places) (λ (i : ℕ). getD values i (pos 0)) m q ∙ effect-index places m b k e
+      pub effect-scan : isScan p ≡ true → onScan s o (entryAt bench maker places) (λ (i : ℕ). getD values i (pos 0)) m ≡ effectOf bench maker s o values p
+      unfolding isScan
+      effect-scan q = scan-responds s o (entryAt bench maker places) (λ (i : ℕ). getD values i (pos 0)) m (sym (ap isScan h) ∙ q) ∙ indexed
+
+      pub effect-row : isScan p ≡ false → onRow s o (entryAt bench maker places) (λ (i : ℕ). getD values i (pos 0)) m ≡ effectOf bench maker s o values p
+      unfolding isScan
+      effect-row q = row-responds s o (entryAt bench maker places) (λ (i : ℕ). getD values i (pos 0)) m (sym (ap isScan h) ∙ q) ∙ indexed
 
   -- ---- a word
 
