@@ -5,3 +5,4 @@ pub mod Several
 pub mod Cuts
 pub mod Remainder
 pub mod Cases
+pub mod Pairs

@@ -6,7 +6,8 @@ ghost use Prim.Native.Nat.{_%_, _≤_};
 ghost use lib.IntN.{pos, natAbs};
 ghost use lib.Signed.{leZ};
 ghost use Rattle.number.specs.Number.{inRange, isMultiple, cutDown, cut, raised, lowered};
-ghost use Rattle.number.specs.Data.{digit, isDigit, fits, codeOf, spellData, decode, readNext, readData};
+ghost use Rattle.number.specs.Data.{isDigit, fits, codeOf, fiveDigits, spellData, decode, readNext, readData};
+ghost use Rattle.number.specs.Inner.{characters};
 
 // A number in units of its last decimal, and how many decimals it has.
 pub struct Decimal {
@@ -104,35 +105,66 @@ pub fn fits(x: Decimal) -> bool
     (magnitude(x.number) <= 9999) & (x.decimals <= 3)
 }
 
-// The character of the last digit of n.
-fn last_digit(n: u32) -> u8
-    ensures { λ r. ⌜ r ≡ digit (n % 10) ⌝ }
+// The code of no decimals.
+fn sign_code(number: i32) -> u32
+    ensures { λ r. ⌜ r ≡ codeOf number 0 ⌝ }
 {
-    48 + (n % 10) as u8
+    if number < 0 { 5 } else { 0 }
 }
 
-// The decimals, and 5 more below zero.
+// The decimals, and 5 more below zero. As a sum it is compiled without a branch.
 fn code(number: i32, decimals: u8) -> u32
     ensures { λ r. ⌜ r ≡ codeOf number decimals ⌝ }
 {
-    if number < 0 {
-        decimals as u32 + 5
-    } else {
-        decimals as u32
-    }
+    decimals as u32 + sign_code(number)
 }
 
-// Four digits of the number and the code.
+// The characters of four digits in one number, the first in its lowest byte. A product and a shift divide exactly: four digits by
+// 100, and two digits by 10, which is done in both halves of a number at once.
+fn characters(m: u32) -> u32
+    requires { ⌜ m ≤ 9999 ⌝ }
+    ensures { λ r. ⌜ r ≡ characters m ⌝ }
+{
+    let upper = (m * 5243) >> 19;
+    // The upper pair in the lower half, and the lower pair, m - 100 * upper, in the upper half.
+    let pairs = m * 65536 - upper * 6553599;
+    let tens = ((pairs * 103) >> 10) & 0x000f_000f;
+    // Each pair as its tens and its units, pair - 10 * tens, in a byte each, and `0` added to each byte.
+    pairs * 256 - tens * 2559 + 0x3030_3030
+}
+
+// Four digits of a number and the digit of a code.
+fn five_digits(m: u32, k: u32) -> [u8; 5]
+    requires { ⌜ (m ≤ 9999) × (k ≤ 9) ⌝ }
+    ensures { λ r. ⌜ r ≡ fiveDigits m k ⌝ }
+{
+    let four = characters(m);
+    let a = (four & 255) as u8;
+    let b = ((four >> 8) & 255) as u8;
+    let c = ((four >> 16) & 255) as u8;
+    let d = (four >> 24) as u8;
+    let e = 48 + k as u8;
+    [a, b, c, d, e]
+}
+
+// The last four digits of a number. One of four digits is its own, which saves the division.
+fn last_four(m: u32) -> u32
+    ensures { λ r. ⌜ r ≡ m % 10000 ⌝ }
+{
+    if m <= 9999 { m } else { m % 10000 }
+}
+
+// Four digits of the number and the code. Only more decimals than any message has make a code of two digits.
 pub fn write_data(x: Decimal) -> [u8; 5]
     ensures { λ r. ⌜ r ≡ spellData x ⌝ }
 {
     let m = magnitude(x.number);
-    let a = last_digit(m / 10 / 10 / 10);
-    let b = last_digit(m / 10 / 10);
-    let c = last_digit(m / 10);
-    let d = last_digit(m);
-    let e = last_digit(code(x.number, x.decimals));
-    [a, b, c, d, e]
+    let k = code(x.number, x.decimals);
+    if x.decimals <= 3 {
+        five_digits(last_four(m), k)
+    } else {
+        five_digits(m % 10000, k % 10)
+    }
 }
 
 // A number of four digits with the digit of its code.
