@@ -1,9 +1,11 @@
-//! Links the proved archive.
+//! Links the proved archives.
 //!
 //! - `KAV_ARCHIVE`, or `../target/staticlib/libabi.a`, is linked when it exists.
 //! - Feature `archive`: it must exist, otherwise the build fails.
+//! - `../target/staticlib/libmeasure.a` is linked to the benchmark `digits` alone when it exists.
 //!
-//! `cfg(kav_linked)` tells the rest of the crate that the seven functions can be called.
+//! `cfg(kav_linked)` tells the rest of the crate that the seven functions can be called, `cfg(kav_measured)` that both digit
+//! writers can.
 
 use std::env;
 use std::path::PathBuf;
@@ -28,5 +30,13 @@ fn main() {
         println!("cargo::rustc-cfg=kav_linked");
     } else {
         assert!(!wanted, "no archive at {}: run `rt staticlib abi` first", archive.display());
+    }
+
+    println!("cargo::rustc-check-cfg=cfg(kav_measured)");
+    let measured = here.join("../target/staticlib/libmeasure.a");
+    println!("cargo::rerun-if-changed={}", measured.display());
+    if measured.is_file() {
+        println!("cargo::rustc-link-arg-bin=digits={}", measured.display());
+        println!("cargo::rustc-cfg=kav_measured");
     }
 }
