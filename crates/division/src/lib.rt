@@ -1,7 +1,7 @@
 // The digit writer as it was before request 3, five digits by division: kept to be measured beside the one in `number`, and used for nothing else.
 ghost use mathlib.Core.Path.{_≡_};
 ghost use Prim.Native.Nat.{_%_};
-ghost use Rattle.number.specs.Data.{digit, codeOf, spellData};
+ghost use Rattle.number.specs.Data.{digit, spellData};
 use number::Decimal;
 
 // The character of the last digit of n.
@@ -9,17 +9,6 @@ fn last_digit(n: u32) -> u8
     ensures { λ r. ⌜ r ≡ digit (n % 10) ⌝ }
 {
     48 + (n % 10) as u8
-}
-
-// The decimals, and 5 more below zero.
-fn code(number: i32, decimals: u8) -> u32
-    ensures { λ r. ⌜ r ≡ codeOf number decimals ⌝ }
-{
-    if number < 0 {
-        decimals as u32 + 5
-    } else {
-        decimals as u32
-    }
 }
 
 // Four digits of the number and the code.
@@ -31,6 +20,6 @@ pub fn write_data(x: Decimal) -> [u8; 5]
     let b = last_digit(m / 10 / 10);
     let c = last_digit(m / 10);
     let d = last_digit(m);
-    let e = last_digit(code(x.number, x.decimals));
+    let e = last_digit(number::code(x.number, x.decimals));
     [a, b, c, d, e]
 }

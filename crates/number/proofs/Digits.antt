@@ -1,7 +1,8 @@
 -- The character of a digit is a digit and says which; so the five characters of data are five digits. Later proofs speak of
--- digits by these laws only, and never by the codes 48 to 57. Assumes nothing.
-use mathlib.Core.Path.{_≡_, refl, ap}
-use mathlib.Core.Bool.{true, false}
+-- digits by these laws only, and never by the codes 48 to 57, but for `Pairs`. The code is at most 5 above the decimals, and what stands
+-- before the last four digits and the last of the code isn't written. Assumes nothing.
+use mathlib.Core.Path.{_≡_, refl}
+use mathlib.Core.Bool.{true}
 use mathlib.Core.List.{List, [], _∷_}
 use Prim.Native.Nat.{ℕ, _+_, _/_, _%_, _≤_}
 use native.Mathlib.Omega.{arith}
@@ -9,11 +10,9 @@ use borrow.Author.Tests.{leb-true, le-leb}
 use lib.Dec.{leb}
 use lib.IntN.{ℤ, pos, negsuc}
 use lib.ListN.{length}
-use lib.Signed.{ltZ}
 use Rattle.refusal.proofs.Logic.{and-left, and-right, and-both}
 use Rattle.number.specs.declared.Decimal.{Decimal}
 use Rattle.number.specs.Data.{digit, isDigit, digitOf, codeOf, fiveDigits, spellData}
-use Rattle.number.proofs.Signed.{below-zero, from-zero}
 
 pub digit-ends : (c : ℕ) → isDigit c ≡ true → (48 ≤ c) × (c ≤ 57)
 unfolding isDigit
@@ -39,20 +38,6 @@ digit-again c e = omega (arith, digit-ends c e .0)
 
 -- ---- the code
 
--- by the test of the sign
-pub code-neg : (x : ℤ) (d : ℕ) → ltZ x (pos 0) ≡ true → codeOf x d ≡ d + 5
-unfolding codeOf
-code-neg x d e = ap (λ (z : ℤ). codeOf z d) (below-zero x e .1)
-
-pub code-pos : (x : ℤ) (d : ℕ) → ltZ x (pos 0) ≡ false → codeOf x d ≡ d
-unfolding codeOf
-code-pos x d e = ap (λ (z : ℤ). codeOf z d) (from-zero x e)
-
-pub code-sum : (x : ℤ) (d : ℕ) → codeOf x d ≡ d + codeOf x 0
-unfolding codeOf
-code-sum (pos n) d = omega arith
-code-sum (negsuc n) d = omega arith
-
 pub code-below : (x : ℤ) (d : ℕ) → codeOf x d ≤ d + 5
 unfolding codeOf
 code-below (pos n) d = omega arith
@@ -77,15 +62,15 @@ unfolding spellData fiveDigits
 data-length x = refl
 
 -- only the last four digits of the number are written, and the last digit of the code
-pub last-four : (m k : ℕ) → fiveDigits (m % 10000) k ≡ fiveDigits m k
+pub four-written : (m k : ℕ) → fiveDigits (m % 10000) k ≡ fiveDigits m k
 unfolding fiveDigits
-last-four m k =
+four-written m k =
     let a : m % 10000 / 10 / 10 / 10 % 10 ≡ m / 10 / 10 / 10 % 10 = omega arith in
     let b : m % 10000 / 10 / 10 % 10 ≡ m / 10 / 10 % 10 = omega arith in
     let c : m % 10000 / 10 % 10 ≡ m / 10 % 10 = omega arith in
     let d : m % 10000 % 10 ≡ m % 10 = omega arith in
     cc (a, b, c, d)
 
-pub last-of-code : (m k : ℕ) → fiveDigits m (k % 10) ≡ fiveDigits m k
+pub one-of-code-written : (m k : ℕ) → fiveDigits m (k % 10) ≡ fiveDigits m k
 unfolding fiveDigits
-last-of-code m k = let e : k % 10 % 10 ≡ k % 10 = omega arith in cc e
+one-of-code-written m k = let e : k % 10 % 10 ≡ k % 10 = omega arith in cc e

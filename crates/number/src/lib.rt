@@ -105,31 +105,28 @@ pub fn fits(x: Decimal) -> bool
     (magnitude(x.number) <= 9999) & (x.decimals <= 3)
 }
 
-// The code of no decimals.
-fn sign_code(number: i32) -> u32
-    ensures { λ r. ⌜ r ≡ codeOf number 0 ⌝ }
-{
-    if number < 0 { 5 } else { 0 }
-}
-
-// The decimals, and 5 more below zero. As a sum it is compiled without a branch.
-fn code(number: i32, decimals: u8) -> u32
+// The decimals, and 5 more below zero.
+pub fn code(number: i32, decimals: u8) -> u32
     ensures { λ r. ⌜ r ≡ codeOf number decimals ⌝ }
 {
-    decimals as u32 + sign_code(number)
+    if number < 0 {
+        decimals as u32 + 5
+    } else {
+        decimals as u32
+    }
 }
 
-// The characters of four digits in one number, the first in its lowest byte. A product and a shift divide exactly: four digits by
-// 100, and two digits by 10, which is done in both halves of a number at once.
+// The characters of four digits in one number, the first in its lowest byte. A product and a shift give the whole quotient: of four
+// digits by 100, and of two digits by 10, which is taken in both halves of a number at once.
 fn characters(m: u32) -> u32
     requires { ⌜ m ≤ 9999 ⌝ }
     ensures { λ r. ⌜ r ≡ characters m ⌝ }
 {
     let upper = (m * 5243) >> 19;
-    // The upper pair in the lower half, and the lower pair, m - 100 * upper, in the upper half.
+    // The upper pair of digits in the lower half, and the lower pair, m - 100 * upper, in the upper half.
     let pairs = m * 65536 - upper * 6553599;
     let tens = ((pairs * 103) >> 10) & 0x000f_000f;
-    // Each pair as its tens and its units, pair - 10 * tens, in a byte each, and `0` added to each byte.
+    // Of each pair the tens in one byte and the units, pair - 10 * tens, in the next, and 48 more in each.
     pairs * 256 - tens * 2559 + 0x3030_3030
 }
 
@@ -147,7 +144,7 @@ fn five_digits(m: u32, k: u32) -> [u8; 5]
     [a, b, c, d, e]
 }
 
-// The last four digits of a number. One of four digits is its own, which saves the division.
+// The last four digits of a number. Where there are no more, nothing has to be divided.
 fn last_four(m: u32) -> u32
     ensures { λ r. ⌜ r ≡ m % 10000 ⌝ }
 {

@@ -8,7 +8,7 @@ use lib.IntN.{ℤ, natAbs}
 use Rattle.number.specs.declared.Decimal.{Decimal}
 use Rattle.number.specs.Data.{codeOf, fiveDigits, spellData}
 use Rattle.number.proofs.Signed.{rd, rd-is}
-use Rattle.number.proofs.Digits.{code-below, last-four, last-of-code}
+use Rattle.number.proofs.Digits.{code-below, four-written, one-of-code-written}
 use Rattle.number.proofs.write_data.Statement.{statement}
 use Rattle.number.proofs.write_data.Tie as tie
 
@@ -37,7 +37,7 @@ returns c =
     let t = c .before .before .before .before in
     c .five-digits .ensures
     ∙ ap₂ fiveDigits (c .before .last-four .ensures ∙ ap (λ (m : ℕ). m % 10000) (magnitude-is t)) (code-is t)
-    ∙ last-four (natAbs (given t .number)) (codeOf (given t .number) (given t .decimals))
+    ∙ four-written (natAbs (given t .number)) (codeOf (given t .number) (given t .decimals))
 
 returns-2 : tie.Need-returns-2
 unfolding spellData
@@ -46,7 +46,7 @@ returns-2 c =
     let m = natAbs (given t .number) in
     let k = codeOf (given t .number) (given t .decimals) in
     c .five-digits2 .ensures ∙ ap₂ (λ (m k : ℕ). fiveDigits (m % 10000) (k % 10)) (magnitude-is t) (code-is t)
-    ∙ last-of-code (m % 10000) k ∙ last-four m k
+    ∙ one-of-code-written (m % 10000) k ∙ four-written m k
 
 pub write-data-spec : {M : Type 1} → statement M
 write-data-spec = tie.close (tie.spec
