@@ -2,15 +2,17 @@
 //! -9,999 to 9,999 with 0 to 3 decimals, in one process, in turns. `../digits.sh` runs it and counts instructions too.
 //!
 //! ```text
-//! digits                       # compares the two, then times them
+//! digits                       # compares both with the rule, then times them
+//! digits --compare             # compares alone
 //! digits --once kav_digits     # every input once with this writer, for callgrind
 //! ```
 
 #[cfg(not(kav_measured))]
 fn main() {
-    println!(
+    eprintln!(
         "digits: no archive (../target/staticlib/libmeasure.a: `rt staticlib measure`), nothing to measure"
     );
+    std::process::exit(1);
 }
 
 #[cfg(kav_measured)]
@@ -84,19 +86,16 @@ mod measured {
     /// All that is measured, and beyond it every count of decimals with numbers from end to end.
     fn compare_all(inputs: &[(i32, u8)]) -> usize {
         inputs.iter().for_each(|&(number, decimals)| compare(number, decimals));
-        let powers = (0..31).map(|bit| 1 << bit);
-        let tens = (0..10).map(|power| 10_i32.pow(power));
-        let mut numbers: Vec<i32> = powers.chain(tens).flat_map(|n: i32| [n - 1, n, n + 1]).collect();
+        let powers = (0..31).map(|bit| 1 << bit).chain((0..10).map(|power| 10_i32.pow(power)));
+        let mut numbers: Vec<i32> = powers.flat_map(|n: i32| [n - 1, n, n + 1]).collect();
         let mut rng = Rng::new(1);
         numbers.extend((0..1_000).map(|_| rng.next() as i32));
-        numbers.extend([i32::MIN, i32::MIN + 1, i32::MAX - 1, i32::MAX]);
+        numbers.extend([i32::MAX - 1, i32::MAX, i32::MIN]);
+        numbers.extend(numbers.clone().iter().map(|n| n.wrapping_neg()));
         for &number in &numbers {
-            for decimals in 0..=255 {
-                compare(number, decimals);
-                compare(number.wrapping_neg(), decimals);
-            }
+            (0..=255).for_each(|decimals| compare(number, decimals));
         }
-        inputs.len() + numbers.len() * 512
+        inputs.len() + numbers.len() * 256
     }
 
     fn median(mut times: Vec<f64>) -> f64 {
@@ -125,12 +124,15 @@ mod measured {
     pub fn main() {
         let args: Vec<String> = std::env::args().skip(1).collect();
         let mut inputs = inputs();
-        if let [once, name] = args.as_slice() {
-            assert_eq!(once, "--once");
-            let writer = WRITERS.iter().find(|writer| writer.0 == name).expect("the name of a writer").1;
-            return pass(writer, &inputs, &mut [0; 5]);
+        match args.iter().map(String::as_str).collect::<Vec<_>>()[..] {
+            [] => (),
+            ["--compare"] => return println!("{} inputs compared", compare_all(&inputs)),
+            ["--once", name] => {
+                let writer = WRITERS.iter().find(|writer| writer.0 == name).expect("the name of a writer").1;
+                return pass(writer, &inputs, &mut [0; 5]);
+            }
+            _ => panic!("no argument, --compare or --once WRITER"),
         }
-        assert_eq!(args.len(), 0, "no argument, or --once WRITER");
         println!("{} inputs compared, {} of them measured", compare_all(&inputs), inputs.len());
         println!("{:34} {:>9} {:>12} {:>7}", "for each number", "in use", "by division", "ratio");
         row("nanoseconds, numbers rising", time(&inputs));
