@@ -40,7 +40,10 @@ use Rattle.act.specs.declared.Offer.the-variants.{Nothing, Held}
 use Rattle.act.specs.declared.Said.the-variants.{Silence, Reply}
 use Rattle.act.specs.declared.Store.the-variants.{Keep, Put}
 use Rattle.act.specs.declared.Effect.{Effect}
-use Rattle.act.specs.Act.{answerTo, noNumber, says, accepts, shownBy, declines, query, moves, up, down, offers, setTo, decimalsOf, store, serve, named, valueOf, scanOf, declinesScan, serveScan, isFor, addressed, onScan, onRow, respond, act}
+use Rattle.act.specs.Cause.{rowOrZeros, isFor}
+use Rattle.act.specs.Act.{answerTo, noNumber, says, accepts, shownBy, offers, named, valueOf, scanOf, act}
+use Rattle.act.proofs.Judged.{act-is}
+use Rattle.act.specs.Inner.{declines, query, moves, up, down, setTo, store, serve, declinesScan, serveScan, addressed}
 
 -- the row of i allows the value z
 pub record Allowed (bench maker : List ℤ) (i : ℕ) (z : ℤ) : Type 0 where
@@ -208,7 +211,7 @@ module _ (bench maker values : List ℤ) (v : soundValues bench maker values ≡
         choice (Good bench maker) (eqb i (m .identifier))
         (λ t.
         let f : entry ≡ Found (g .row) = ap (entryIn bench maker) (sym (eqb-true i (m .identifier) t)) ∙ g .found in
-        subst (λ (e : Entry). Good bench maker (accepts m z (decimalsOf e))) (sym f) (stores (g .row) f z (g .fits)))
+        subst (λ (e : Entry). Good bench maker (accepts m z (rowOrZeros e .decimals))) (sym f) (stores (g .row) f z (g .fits)))
         (λ t. good-silence bench maker Nothing)
     good-store Nothing g = good-silence bench maker Nothing
 
@@ -261,10 +264,11 @@ module _ (bench maker values : List ℤ) (v : soundValues bench maker values ≡
       good-scan body.Store = good-silence bench maker Nothing
 
   pub good-act : (c : Setup) (o : Offer) → FairScan bench maker c → Fair bench maker o → Good bench maker (act bench maker c o values m)
-  unfolding act respond onScan onRow addressed
+  unfolding addressed
   good-act c o s g =
-      choice (Good bench maker) (eqb (m .identifier) scanIdentifier)
+      subst (Good bench maker) (sym (act-is bench maker c o values m))
+      (choice (Good bench maker) (eqb (m .identifier) scanIdentifier)
       (λ u. choice (Good bench maker) (isFor c m) (λ t. good-scan u c s (m .body)) (λ t. good-silence bench maker o))
       (λ u.
       choice (Good bench maker) (isFor c m) (λ t. good-serve o g u (m .body) (body-parts (m .identifier) (m .body) (p .fits-body)))
-      (λ t. good-silence bench maker o))
+      (λ t. good-silence bench maker o)))

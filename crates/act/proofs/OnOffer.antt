@@ -1,7 +1,7 @@
 -- What a message leads to, by its type and by whether it is on `]`. What is on offer after one for this card: only a Type 3 leaves an
 -- offer, the cut of its number for its identifier, where the row is not read only and the number is in range. And such a Type 3 does leave
 -- it. One for another card leaves all as it was. Assumes nothing.
-use mathlib.Core.Path.{_≡_, refl, sym, ap, _∙_}
+use mathlib.Core.Path.{_≡_, refl, sym, ap, _∙_, subst}
 use mathlib.Core.Bool.{true, false, _&&_, _||_}
 use mathlib.Core.List.{List, [], _∷_, map}
 use Prim.Native.Nat.{ℕ}
@@ -31,7 +31,10 @@ use Rattle.act.specs.declared.Offer.{Offer}
 use Rattle.act.specs.declared.Offer.the-variants.{Nothing, Held}
 use Rattle.act.specs.declared.Said.the-variants.{Reply}
 use Rattle.act.specs.declared.Effect.{Effect}
-use Rattle.act.specs.Act.{noEffect, answerTo, noNumber, says, accepts, shownBy, declines, query, moves, up, down, offers, setTo, decimalsOf, store, serve, named, namesFrom, valueOf, scanOf, declinesScan, serveScan, isFor, ours, addressed, onScan, onRow, respond, act}
+use Rattle.act.specs.Cause.{rowOrZeros, isFor}
+use Rattle.act.specs.Act.{noEffect, answerTo, noNumber, says, accepts, shownBy, offers, named, namesFrom, valueOf, scanOf, ours, onScan, onRow, respond, act}
+use Rattle.act.proofs.Judged.{act-is}
+use Rattle.act.specs.Inner.{declines, query, moves, up, down, setTo, store, serve, declinesScan, serveScan, addressed}
 
 -- the message m, at the card that it is for, leaves the value z on offer for the identifier i
 pub record Leaves (bench maker : List ℤ) (m : Message) (i : ℕ) (z : ℤ) : Type 0 where
@@ -104,7 +107,7 @@ module _ (bench maker : List ℤ) (m : Message) where
 
   left-store : (e : Entry) (o : Offer) → Left (store m e o)
   unfolding store
-  left-store e (Held j y) = choice Left (eqb j (m .identifier)) (λ t. left-accepts y (decimalsOf e)) (λ t i z q. nothing q)
+  left-store e (Held j y) = choice Left (eqb j (m .identifier)) (λ t. left-accepts y (rowOrZeros e .decimals)) (λ t i z q. nothing q)
   left-store e Nothing = λ i z q. nothing q
 
   left-serve : (o : Offer) (v : ℤ) (b : Body) → m .body ≡ b → Left (serve m (entryIn bench maker (m .identifier)) o v b)
@@ -127,14 +130,16 @@ module _ (bench maker : List ℤ) (m : Message) where
 
   -- at the card that it is for
   pub act-leaves : (c : Setup) (o : Offer) (values : List ℤ) → isFor c m ≡ true → (i : ℕ) (z : ℤ) → act bench maker c o values m .offer ≡ Held i z → Leaves bench maker m i z
-  unfolding act respond onScan onRow addressed
+  unfolding addressed
   act-leaves c o values t =
-      rw t (choice Left (eqb (m .identifier) scanIdentifier) (λ u. left-scan c _ (m .body)) (λ u. left-serve o (getD values (m .identifier) (pos 0)) (m .body) refl))
+      subst Left (sym (act-is bench maker c o values m))
+      (rw t (choice Left (eqb (m .identifier) scanIdentifier) (λ u. left-scan c _ (m .body)) (λ u. left-serve o (getD values (m .identifier) (pos 0)) (m .body) refl)))
 
   -- at any other
   pub act-neighbour : (c : Setup) (o : Offer) (values : List ℤ) → isFor c m ≡ false → act bench maker c o values m ≡ noEffect o
-  unfolding act respond onScan onRow addressed
-  act-neighbour c o values t = rw t (choice (λ (x : Effect). x ≡ noEffect o) (eqb (m .identifier) scanIdentifier) (λ u. refl) (λ u. refl))
+  unfolding addressed
+  act-neighbour c o values t =
+      act-is bench maker c o values m ∙ rw t (choice (λ (x : Effect). x ≡ noEffect o) (eqb (m .identifier) scanIdentifier) (λ u. refl) (λ u. refl))
 
 -- ---- the values that a card names
 
@@ -206,8 +211,8 @@ module _ (bench maker : List ℤ) (c : Setup) (o : Offer) (values : List ℤ) (m
   -- on `]`: the values that the card names, or `N` with `00000`
   module _ (u : eqb (m .identifier) scanIdentifier ≡ true) where
     scanned : (b : Body) → m .body ≡ b → answered ≡ serveScan c m (scanOf c (valueOf (entryIn bench maker) (λ (i : ℕ). getD values i (pos 0)))) b
-    unfolding act respond onScan onRow addressed
-    scanned b e = rw (its, u, e)
+    unfolding addressed
+    scanned b e = act-is bench maker c o values m ∙ rw (its, u, e)
 
     pub scan-said : m .body ≡ body.Query → eqb (c .count) 0 ≡ false → answered .said ≡ Reply (answerTo m Accepted (scanOf c (valueOf (entryIn bench maker) (λ (i : ℕ). getD values i (pos 0)))))
     unfolding serveScan says
@@ -220,8 +225,8 @@ module _ (bench maker : List ℤ) (c : Setup) (o : Offer) (values : List ℤ) (m
   -- on any other identifier
   module _ (u : eqb (m .identifier) scanIdentifier ≡ false) where
     served : (b : Body) → m .body ≡ b → answered ≡ serve m (entryIn bench maker (m .identifier)) o (getD values (m .identifier) (pos 0)) b
-    unfolding act respond onScan onRow addressed
-    served b e = rw (its, u, e)
+    unfolding addressed
+    served b e = act-is bench maker c o values m ∙ rw (its, u, e)
 
     pub status-said : m .body ≡ body.Status → answered .said ≡ Reply (answerTo m Accepted Empty)
     unfolding serve says

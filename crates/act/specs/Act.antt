@@ -1,23 +1,24 @@
 -- What a card does with a heard message: what it says, the offer afterwards, and what is stored. Document 01, "What the card does",
 -- as document 02, tickets 1 and 2, change it.
--- Up to "the scan", e is the entry of the message's identifier in the sheets and v the value stored for it; behind it they give these for
--- every identifier.
-use mathlib.Core.Bool.{Bool, cond, _&&_}
+-- Up to "the scan", v is the value stored for the message's identifier; behind it e and v give the entry in the sheets and the value of every
+-- identifier.
+use mathlib.Core.Bool.{Bool, cond, not}
 use mathlib.Core.List.{List, [], _∷_}
 use Prim.Native.Nat.{ℕ, zero, suc}
 use lib.Dec.{eqb}
 use lib.IntN.{ℤ, pos}
 use lib.ListN.{getD}
+use Rattle.refusal.specs.Check.{Check, first, decided}
 use Rattle.number.specs.declared.Decimal.{Decimal}
 use Rattle.number.specs.Data.{withDecimals}
-use Rattle.number.specs.Number.{inRange, cut, raised, lowered}
+use Rattle.number.specs.Number.{cut, raised, lowered}
 use Rattle.message.specs.declared.Body.{Body}
 use Rattle.message.specs.declared.Body.the-variants as body
 use Rattle.message.specs.declared.Message.{Message}
 use Rattle.sheet.specs.declared.Row.{Row}
 use Rattle.sheet.specs.declared.Entry.{Entry}
 use Rattle.sheet.specs.declared.Entry.the-variants.{Found, Missing}
-use Rattle.sheet.specs.Values.{entryIn, isReadable, isWritable, isReadWrite}
+use Rattle.sheet.specs.Values.{entryIn, isReadable}
 use Rattle.reply.specs.declared.Mark.{Mark}
 use Rattle.reply.specs.declared.Mark.the-variants.{Accepted, Offered, Declined}
 use Rattle.reply.specs.declared.Content.{Content}
@@ -31,6 +32,8 @@ use Rattle.act.specs.declared.Said.the-variants.{Silence, Reply}
 use Rattle.act.specs.declared.Store.{Store}
 use Rattle.act.specs.declared.Store.the-variants.{Keep, Put}
 use Rattle.act.specs.declared.Effect.{Effect}
+use Rattle.act.specs.declared.Cause.the-variants.{NotForThisCard, NoOffer}
+use Rattle.act.specs.Cause.{codeOf, rowOrZeros, onEntry, onBracket, isFor, causes}
 
 -- "no answer, no effect": silence, the offer as it was, nothing stored
 abbrev pub noEffect : Offer → Effect
@@ -61,60 +64,31 @@ unfoldable pub shownBy : Entry → ℤ → Content
 shownBy (Found r) v = cond (isReadable r) (Number (withDecimals v (r .decimals))) noNumber
 shownBy Missing v = noNumber
 
--- `N`, offer gone
-unfoldable pub declines : Message → Entry → ℤ → Effect
-declines m e v = says m Declined (shownBy e v)
-
--- Type 2 `?`: "value and `A` if the row exists and isn't write only, otherwise `N`"
-unfoldable pub query : Message → Entry → ℤ → Effect
-query m (Found r) v = cond (isReadable r) (says m Accepted (Number (withDecimals v (r .decimals)))) (declines m (Found r) v)
-query m Missing v = declines m Missing v
-
--- Type 2 `+` or `-`: "one step up or down, new value and `A`, if the row is read and write and the result is in range"
-unfoldable pub moves : Message → Row → ℤ → ℤ → Effect
-moves m r v z = cond (isReadWrite r && inRange (r .least) z (r .greatest)) (accepts m z (r .decimals)) (declines m (Found r) v)
-
--- `+`
-unfoldable pub up : Message → Entry → ℤ → Effect
-up m (Found r) v = moves m r v (raised v (r .step))
-up m Missing v = declines m Missing v
-
--- `-`
-unfoldable pub down : Message → Entry → ℤ → Effect
-down m (Found r) v = moves m r v (lowered v (r .step))
-down m Missing v = declines m Missing v
-
 -- "cut down to the nearest multiple of the step not above it; that is offered, and replied with `I`"
 unfoldable pub offers : Message → Row → ℤ → Effect
 offers m r n =
     record { said = Reply (answerTo m Offered (Number (withDecimals (cut n (r .step)) (r .decimals)))); offer = Held (m .identifier) (cut n (r .step)); store = Keep }
 
--- Type 3: "accepted if the row exists, isn't read only, the decimals equal the row's, and the number is in range"
-unfoldable pub setTo : Message → Entry → ℤ → Decimal → Effect
-setTo m (Found r) v x =
-    cond (isWritable r && eqb (x .decimals) (r .decimals) && inRange (r .least) (x .number) (r .greatest)) (offers m r (x .number)) (declines m (Found r) v)
-setTo m Missing v x = declines m Missing v
+-- what an offer holds
+abbrev pub valueOn : Offer → ℤ
+valueOn (Held i z) = z
+valueOn Nothing = pos 0
 
--- the decimals of a row
-abbrev pub decimalsOf : Entry → ℕ
-decimalsOf (Found r) = r .decimals
-decimalsOf Missing = 0
-
--- Type 4: "if the offer is for this identifier, it is stored and replied with `A`. If not, silence."
-unfoldable pub store : Message → Entry → Offer → Effect
-store m e (Held i z) = cond (eqb i (m .identifier)) (accepts m z (decimalsOf e)) silent
-store m e Nothing = silent
-
--- a message for this card, by its type; Type 1: "reply `A` with no data"
-unfoldable pub serve : Message → Entry → Offer → ℤ → Body → Effect
-serve m e o v body.Status = says m Accepted Empty
-serve m e o v body.Query = query m e v
-serve m e o v body.Up = up m e v
-serve m e o v body.Down = down m e v
-serve m e o v (body.Set x) = setTo m e v x
-serve m e o v body.Store = store m e o
+-- a message that is accepted, by its type; r is its row. Type 1: "reply `A` with no data"; Type 2 `?`: "value and `A`"; `+` or `-`: "one step
+-- up or down, new value and `A`"; Type 4: "it is stored and replied with `A`"
+unfoldable pub granted : Message → Row → Offer → ℤ → Body → Effect
+granted m r o v body.Status = says m Accepted Empty
+granted m r o v body.Query = says m Accepted (Number (withDecimals v (r .decimals)))
+granted m r o v body.Up = accepts m (raised v (r .step)) (r .decimals)
+granted m r o v body.Down = accepts m (lowered v (r .step)) (r .decimals)
+granted m r o v (body.Set x) = offers m r (x .number)
+granted m r o v body.Store = accepts m (valueOn o) (r .decimals)
 
 -- ---- the scan. Document 02, ticket 1: "A card names five identifiers for it, in order, repeats allowed; a 20-digit form with four"
+
+-- a card with a scan
+abbrev pub hasScan : Setup → Bool
+hasScan c = not (eqb (c .count) 0)
 
 -- so many at most
 abbrev pub mostNamed : ℕ
@@ -131,7 +105,7 @@ namesFrom c k (suc n) = named c k ∷ namesFrom c (suc k) n
 
 -- the value of an identifier, with the decimals of its row: e gives the entry of each identifier, v the value
 unfoldable pub valueOf : (ℕ → Entry) → (ℕ → ℤ) → ℕ → Decimal
-valueOf e v i = withDecimals (v i) (decimalsOf (e i))
+valueOf e v i = withDecimals (v i) (rowOrZeros (e i) .decimals)
 
 -- the values of the four identifiers that the card names, or of the five: a sound card that names some has no other count
 unfoldable pub scanOf : Setup → (ℕ → Decimal) → Content
@@ -139,37 +113,32 @@ scanOf c x =
     cond (eqb (c .count) 4) (Four (x (named c 0)) (x (named c 1)) (x (named c 2)) (x (named c 3)))
     (Five (x (named c 0)) (x (named c 1)) (x (named c 2)) (x (named c 3)) (x (named c 4)))
 
--- "Otherwise a Type 2 or 3 on `]` is `N` with `00000`"
-unfoldable pub declinesScan : Message → Effect
-declinesScan m = says m Declined noNumber
-
--- a message on `]`: "a Type 2 `?` on `]` answers .. five five-digit values and `A*`", where the card names some; "and a Type 4 is silence".
--- Type 1 is never on `]`.
-unfoldable pub serveScan : Setup → Message → Content → Body → Effect
-serveScan c m x body.Status = declinesScan m
-serveScan c m x body.Query = cond (eqb (c .count) 0) (declinesScan m) (says m Accepted x)
-serveScan c m x body.Up = declinesScan m
-serveScan c m x body.Down = declinesScan m
-serveScan c m x (body.Set y) = declinesScan m
-serveScan c m x body.Store = silent
-
 -- ---- any message
 
--- a message for this card: its letter and its address
-unfoldable pub isFor : Setup → Message → Bool
-isFor c m = eqb (m .letter) (c .letter) && eqb (m .address) (c .address)
+-- the tests of a message on `]`, by the card's setup alone
+abbrev pub scanCauses : Setup → Message → List Check
+scanCauses c m = causes c m (onBracket (hasScan c) (m .body))
 
--- document 02, ticket 2: "the real card takes no notice of traffic for another letter or address"
-unfoldable pub addressed : Setup → Offer → Message → Effect → Effect
-addressed c o m x = cond (isFor c m) x (noEffect o)
+-- and on any other identifier
+abbrev pub rowCauses : Setup → Offer → (ℕ → Entry) → (ℕ → ℤ) → Message → List Check
+rowCauses c o e v m = causes c m (onEntry (e (m .identifier)) o (v (m .identifier)) (m .identifier) (m .body))
 
--- e gives the entry of each identifier, and v the value stored at its place: a message on `]`
+-- what a cause leads to. For another card: "the real card takes no notice of traffic for another letter or address"; a Type 4 without its
+-- offer: silence, offer gone; any other: `N`, offer gone
+unfoldable pub turnedDown : Offer → Message → Content → ℕ → Effect
+turnedDown o m x n = cond (eqb n (codeOf NotForThisCard)) (noEffect o) (cond (eqb n (codeOf NoOffer)) silent (says m Declined x))
+
+-- a message on `]`: it is accepted exactly when it has no cause, and is then a Type 2 `?`, which "answers .. five five-digit values and `A*`".
+-- `N` has `00000` there. e gives the entry of each identifier, and v the value stored at its place.
 unfoldable pub onScan : Setup → Offer → (ℕ → Entry) → (ℕ → ℤ) → Message → Effect
-onScan c o e v m = addressed c o m (serveScan c m (scanOf c (valueOf e v)) (m .body))
+onScan c o e v m = decided (first (scanCauses c m)) (turnedDown o m noNumber) (says m Accepted (scanOf c (valueOf e v)))
 
--- on any other identifier
+-- on any other identifier: it is accepted exactly when it has no cause
 unfoldable pub onRow : Setup → Offer → (ℕ → Entry) → (ℕ → ℤ) → Message → Effect
-onRow c o e v m = addressed c o m (serve m (e (m .identifier)) o (v (m .identifier)) (m .body))
+onRow c o e v m =
+    let x : Entry = e (m .identifier) in
+    let z : ℤ = v (m .identifier) in
+    decided (first (rowCauses c o e v m)) (turnedDown o m (shownBy x z)) (granted m (rowOrZeros x) o z (m .body))
 
 unfoldable pub respond : Setup → Offer → (ℕ → Entry) → (ℕ → ℤ) → Message → Effect
 respond c o e v m = cond (eqb (m .identifier) scanIdentifier) (onScan c o e v m) (onRow c o e v m)
@@ -177,6 +146,11 @@ respond c o e v m = cond (eqb (m .identifier) scanIdentifier) (onScan c o e v m)
 -- under these sheets and values
 unfoldable pub act : List ℤ → List ℤ → Setup → Offer → List ℤ → Message → Effect
 act bench maker c o values m = respond c o (entryIn bench maker) (λ (i : ℕ). getD values i (pos 0)) m
+
+-- and its tests
+unfoldable pub causesIn : List ℤ → List ℤ → Setup → Offer → List ℤ → Message → List Check
+causesIn bench maker c o values m =
+    cond (eqb (m .identifier) scanIdentifier) (scanCauses c m) (rowCauses c o (entryIn bench maker) (λ (i : ℕ). getD values i (pos 0)) m)
 
 -- ---- several messages
 

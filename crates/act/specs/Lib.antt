@@ -1,1 +1,3 @@
+pub mod Cause
 pub mod Act
+pub mod Inner

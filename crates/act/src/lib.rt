@@ -4,7 +4,9 @@ ghost use lib.IntN.{pos};
 ghost use lib.ListN.{getD};
 ghost use Rattle.number.specs.Data.{withDecimals};
 ghost use Rattle.sheet.specs.Inner.{entryAt};
-ghost use Rattle.act.specs.Act.{noEffect, silent, answerTo, says, accepts, shownBy, declines, query, moves, up, down, offers, setTo, decimalsOf, store, serve, valueOf, scanOf, declinesScan, serveScan, isFor, onScan, onRow};
+ghost use Rattle.act.specs.Cause.{rowOrZeros, isFor};
+ghost use Rattle.act.specs.Act.{noEffect, silent, answerTo, says, accepts, shownBy, offers, valueOf, scanOf, onScan, onRow};
+ghost use Rattle.act.specs.Inner.{declines, query, moves, up, down, setTo, store, serve, declinesScan, serveScan};
 use message::Body;
 use message::Message;
 use number::Decimal;
@@ -13,6 +15,8 @@ use reply::Content;
 use reply::Mark;
 use sheet::Entry;
 use sheet::Row;
+
+pub mod causes;
 
 // The most identifiers that a scan names.
 pub const MOST_NAMED: usize = 5;
@@ -41,6 +45,31 @@ pub enum Said {
 pub enum Store {
     Keep,
     Put { place: u8, value: i32 },
+}
+
+// Why a message is answered with `N` or with silence, or a word with silence: what the paper gives beside the reply. A closed message that
+// isn't well formed has the position of its first character that no well-formed message could have there.
+pub enum Cause {
+    None,
+    NoSuchIdentifier,
+    Access,
+    WrongDecimals,
+    OutOfRange,
+    AtLimit,
+    NotForThisCard,
+    NoOffer,
+    NoMessageClosed,
+    NotWellFormed(usize),
+}
+
+// How a message stands with the card, in the order of the tests: each is true where that test is passed.
+pub struct Standing {
+    pub offered: bool,
+    pub exists: bool,
+    pub allowed: bool,
+    pub decimals: bool,
+    pub number: bool,
+    pub step: bool,
 }
 
 // What a heard message leads to.
@@ -222,7 +251,7 @@ fn set_to(message: Message, entry: Entry, value: i32, x: Decimal) -> Effect
 }
 
 fn decimals_of(entry: Entry) -> u8
-    ensures { λ r. ⌜ r ≡ decimalsOf entry ⌝ }
+    ensures { λ r. ⌜ r ≡ rowOrZeros entry .decimals ⌝ }
 {
     let Entry::Found(row) = entry else {
         return 0;
@@ -259,7 +288,7 @@ fn serve(message: Message, entry: Entry, offer: Offer, value: i32, body: Body) -
 }
 
 // The value stored at a place.
-fn value_at(values: &[i32], place: u8) -> i32
+pub(crate) fn value_at(values: &[i32], place: u8) -> i32
     ensures { λ r. ⌜ r ≡ getD (now (values .entry)) place (pos 0) ⌝ }
 {
     let at = place as usize;
@@ -267,7 +296,7 @@ fn value_at(values: &[i32], place: u8) -> i32
 }
 
 // Whether the message is for a card with this setup.
-fn is_for(setup: Setup, message: Message) -> bool
+pub(crate) fn is_for(setup: Setup, message: Message) -> bool
     ensures { λ r. ⌜ r ≡ isFor setup message ⌝ }
 {
     (message.letter == setup.letter) & (message.address == setup.address)

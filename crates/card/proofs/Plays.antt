@@ -22,7 +22,8 @@ use Rattle.hearing.proofs.Quiet.{heard-closed}
 use Rattle.act.specs.declared.Setup.{Setup}
 use Rattle.act.specs.declared.Offer.{Offer}
 use Rattle.act.specs.declared.Effect.{Effect}
-use Rattle.act.specs.Act.{isFor, ours, act}
+use Rattle.act.specs.Cause.{isFor}
+use Rattle.act.specs.Act.{ours, act}
 use Rattle.act.proofs.OnOffer.{act-neighbour, ours-none, ours-own, ours-other}
 use Rattle.card.specs.declared.Card.{Card}
 use Rattle.card.specs.Turn.{Turn, replyOf, effectOf, turned, turn, stored, Played, stopped, after, play}

@@ -35,7 +35,8 @@ use Rattle.act.specs.declared.Offer.the-variants.{Nothing, Held}
 use Rattle.act.specs.declared.Said.the-variants.{Reply}
 use Rattle.act.specs.declared.Store.{Store}
 use Rattle.act.specs.declared.Store.the-variants.{Keep, Put}
-use Rattle.act.specs.Act.{named, namesFrom, isFor, act}
+use Rattle.act.specs.Cause.{isFor}
+use Rattle.act.specs.Act.{named, namesFrom, act}
 use Rattle.act.proofs.OnOffer.{Leaves, act-leaves, act-neighbour}
 use Rattle.act.proofs.Effects.{Allowed, Fair, FairScan, Good, good-silence, good-act}
 use Rattle.card.specs.declared.Card.{Card}

@@ -31,7 +31,8 @@ use Rattle.act.specs.declared.Said.{Said}
 use Rattle.act.specs.declared.Said.the-variants.{Silence, Reply}
 use Rattle.act.specs.declared.Effect.{Effect}
 use Rattle.act.specs.declared.Store.the-variants.{Keep}
-use Rattle.act.specs.Act.{noEffect, isFor, onScan, onRow, respond, act}
+use Rattle.act.specs.Cause.{isFor}
+use Rattle.act.specs.Act.{noEffect, onScan, onRow, respond, act}
 use Rattle.act.proofs.OnOffer.{act-neighbour, scan-responds, row-responds}
 use Rattle.card.specs.declared.Card.{Card}
 use Rattle.card.specs.Inner.{isScan}

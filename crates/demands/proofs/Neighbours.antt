@@ -15,7 +15,8 @@ use Rattle.hearing.proofs.Heard.{Messages, heard-start, heard-messages}
 use Rattle.hearing.proofs.Normal.{heard-words, words-valid}
 use Rattle.hearing.proofs.Quiet.{heard-silence}
 use Rattle.act.specs.declared.Setup.{Setup}
-use Rattle.act.specs.Act.{isFor, ours}
+use Rattle.act.specs.Cause.{isFor}
+use Rattle.act.specs.Act.{ours}
 use Rattle.act.proofs.OnOffer.{ours-none, ours-own, ours-other, ours-ours}
 use Rattle.card.specs.declared.Card.{Card}
 use Rattle.card.specs.Turn.{Turn, withBoth}

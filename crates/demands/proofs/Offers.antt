@@ -32,7 +32,8 @@ use Rattle.sheet.proofs.Values.{SoundRow, entry-sound, entry-identifier, fits-p
 use Rattle.sheet.proofs.Least.{leastValues, least-sound}
 use Rattle.act.specs.declared.Offer.the-variants.{Nothing, Held}
 use Rattle.act.specs.declared.Effect.{Effect}
-use Rattle.act.specs.Act.{isFor, act}
+use Rattle.act.specs.Cause.{isFor}
+use Rattle.act.specs.Act.{act}
 use Rattle.act.proofs.OnOffer.{Leaves, act-leaves, set-leaves}
 use Rattle.card.specs.declared.Card.{Card}
 use Rattle.card.specs.Turn.{turn}

@@ -51,7 +51,8 @@ use Rattle.act.specs.declared.Offer.the-variants.{Nothing}
 use Rattle.act.specs.declared.Said.the-variants.{Reply}
 use Rattle.act.specs.declared.Effect.{Effect}
 use Rattle.act.specs.declared.Setup.{Setup}
-use Rattle.act.specs.Act.{noNumber, named, valueOf, scanOf, isFor}
+use Rattle.act.specs.Cause.{isFor}
+use Rattle.act.specs.Act.{noNumber, named, valueOf, scanOf}
 use Rattle.act.proofs.OnOffer.{value-is, four-named, five-named, own-card, answered, scan-said, scan-declined, status-said, query-said, up-refused, set-said}
 use Rattle.card.specs.declared.Card.{Card}
 use Rattle.card.specs.Turn.{effectOf, turn}

@@ -29,7 +29,8 @@ use Rattle.reply.specs.declared.Mark.the-variants.{Declined}
 use Rattle.reply.specs.declared.Content.the-variants.{Number}
 use Rattle.reply.specs.Reply.{longestReply, scanIdentifier, spellAnswer}
 use Rattle.reply.specs.Read.{readCall}
-use Rattle.act.specs.Act.{noNumber, mostNamed, isFor}
+use Rattle.act.specs.Cause.{isFor}
+use Rattle.act.specs.Act.{noNumber, mostNamed}
 use Rattle.act.specs.declared.Offer.{Offer}
 use Rattle.act.specs.declared.Offer.the-variants.{Nothing, Held}
 use Rattle.act.specs.declared.Said.the-variants.{Silence, Reply}

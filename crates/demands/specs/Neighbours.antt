@@ -16,7 +16,8 @@ use Rattle.hearing.specs.Hearing.{none, hear, heardFrom}
 use Rattle.hearing.specs.Normal.{wordsOf}
 use Rattle.reply.specs.Reply.{longestReply}
 use Rattle.act.specs.declared.Offer.the-variants.{Held}
-use Rattle.act.specs.Act.{isFor, ours}
+use Rattle.act.specs.Cause.{isFor}
+use Rattle.act.specs.Act.{ours}
 use Rattle.card.specs.declared.Card.{Card}
 use Rattle.card.specs.Calls.{stepCall}
 use Rattle.demands.specs.Terms.{Sound, replies}

@@ -1,6 +1,7 @@
 -- `act::declines` meets its contract: it says what is shown. Assumes nothing.
 use Rattle.reply.specs.declared.Mark.the-variants.{Declined}
-use Rattle.act.specs.Act.{says, shownBy, declines}
+use Rattle.act.specs.Act.{says, shownBy}
+use Rattle.act.specs.Inner.{declines}
 use mathlib.Core.Path.{ap, _∙_}
 use Rattle.number.proofs.Signed.{rd-is}
 use borrow.Author.Needs.{needs}

@@ -2,7 +2,7 @@
 use mathlib.Core.Path.{sym, ap, ap₂, _∙_}
 use Rattle.number.proofs.Signed.{rd-is, rd-ok}
 use Rattle.number.specs.Number.{lowered}
-use Rattle.act.specs.Act.{declines, moves, down}
+use Rattle.act.specs.Inner.{declines, moves, down}
 use borrow.Author.Needs.{needs}
 use Rattle.act.proofs.down.Statement.{statement}
 use Rattle.act.proofs.down.Tie as tie

@@ -1,6 +1,6 @@
 -- `act::is_for` meets its contract: the two tests are the definition's. Assumes nothing.
 use mathlib.Core.Path.{refl}
-use Rattle.act.specs.Act.{isFor}
+use Rattle.act.specs.Cause.{isFor}
 use Rattle.act.proofs.is_for.Statement.{statement}
 use Rattle.act.proofs.is_for.Tie as tie
 

@@ -6,7 +6,8 @@ use lib.IntN.{ℤ}
 use Rattle.number.specs.Number.{inRange}
 use Rattle.sheet.specs.declared.Entry.the-variants.{Found}
 use Rattle.sheet.specs.Values.{isReadWrite}
-use Rattle.act.specs.Act.{accepts, declines, moves}
+use Rattle.act.specs.Act.{accepts}
+use Rattle.act.specs.Inner.{declines, moves}
 use borrow.Author.Needs.{needs}
 use Rattle.act.proofs.moves.Statement.{statement}
 use Rattle.act.proofs.moves.Tie as tie

@@ -6,7 +6,8 @@ use Rattle.number.proofs.Signed.{rd-is}
 use Rattle.sheet.specs.declared.Entry.the-variants.{Found}
 use Rattle.reply.specs.declared.Mark.the-variants.{Accepted}
 use Rattle.reply.specs.declared.Content.the-variants.{Number}
-use Rattle.act.specs.Act.{says, declines, query}
+use Rattle.act.specs.Act.{says}
+use Rattle.act.specs.Inner.{declines, query}
 use borrow.Author.Needs.{needs}
 use Rattle.act.proofs.query.Statement.{statement}
 use Rattle.act.proofs.query.Tie as tie

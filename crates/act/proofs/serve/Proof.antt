@@ -2,7 +2,7 @@
 use mathlib.Core.Path.{sym, ap, _∙_}
 use lib.IntN.{ℤ}
 use Rattle.number.proofs.Signed.{rd-is}
-use Rattle.act.specs.Act.{query, up, down, setTo, serve}
+use Rattle.act.specs.Inner.{query, up, down, setTo, serve}
 use borrow.Author.Needs.{needs}
 use Rattle.act.proofs.serve.Statement.{statement}
 use Rattle.act.proofs.serve.Tie as tie

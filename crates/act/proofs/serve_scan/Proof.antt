@@ -2,7 +2,8 @@
 use mathlib.Core.Path.{sym, ap, _∙_}
 use borrow.Author.Tests.{eq-eqb, ne-eqb}
 use Rattle.reply.specs.declared.Mark.the-variants.{Accepted}
-use Rattle.act.specs.Act.{says, serveScan}
+use Rattle.act.specs.Act.{says}
+use Rattle.act.specs.Inner.{serveScan}
 use borrow.Author.Needs.{needs}
 use Rattle.act.proofs.serve_scan.Statement.{statement}
 use Rattle.act.proofs.serve_scan.Tie as tie

@@ -9,7 +9,8 @@ use Rattle.sheet.specs.declared.Row.{Row}
 use Rattle.sheet.specs.declared.Entry.{Entry}
 use Rattle.sheet.specs.declared.Entry.the-variants.{Found}
 use Rattle.sheet.specs.Values.{isWritable}
-use Rattle.act.specs.Act.{declines, offers, setTo}
+use Rattle.act.specs.Act.{offers}
+use Rattle.act.specs.Inner.{declines, setTo}
 use borrow.Author.Needs.{needs}
 use Rattle.act.proofs.set_to.Statement.{statement}
 use Rattle.act.proofs.set_to.Tie as tie

@@ -4,7 +4,8 @@ use Rattle.number.proofs.Signed.{rd-is}
 use borrow.Author.Tests.{eq-eqb, ne-eqb}
 use mir.Syntax.{w32}
 use mir.Val.{SFits}
-use Rattle.act.specs.Act.{accepts, store}
+use Rattle.act.specs.Act.{accepts}
+use Rattle.act.specs.Inner.{store}
 use borrow.Author.Needs.{needs}
 use Rattle.act.proofs.store_offer.Statement.{statement}
 use Rattle.act.proofs.store_offer.Tie as tie

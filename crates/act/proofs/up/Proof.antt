@@ -2,7 +2,7 @@
 use mathlib.Core.Path.{sym, ap, ap₂, _∙_}
 use Rattle.number.proofs.Signed.{rd-is, rd-ok}
 use Rattle.number.specs.Number.{raised}
-use Rattle.act.specs.Act.{declines, moves, up}
+use Rattle.act.specs.Inner.{declines, moves, up}
 use borrow.Author.Needs.{needs}
 use Rattle.act.proofs.up.Statement.{statement}
 use Rattle.act.proofs.up.Tie as tie

@@ -1,0 +1,124 @@
+-- The list of tests comes to what each type of message tests: what is accepted has no cause, and what has one is turned down as its cause
+-- says. Assumes nothing.
+use mathlib.Core.Path.{_≡_, refl, sym, ap₂, _∙_}
+use mathlib.Core.Bool.{true, false, cond}
+use mathlib.Core.List.{List}
+use Prim.Native.Nat.{ℕ}
+use lib.Dec.{eqb}
+use lib.IntN.{ℤ, pos}
+use lib.ListN.{getD}
+use Rattle.refusal.specs.Check.{first, decided}
+use Rattle.refusal.proofs.Logic.{by-test}
+use Rattle.number.specs.Number.{inRange, raised, lowered}
+use Rattle.message.specs.declared.Body.{Body}
+use Rattle.message.specs.declared.Body.the-variants as body
+use Rattle.message.specs.declared.Message.{Message}
+use Rattle.sheet.specs.declared.Entry.{Entry}
+use Rattle.sheet.specs.declared.Entry.the-variants.{Found, Missing}
+use Rattle.sheet.specs.Values.{entryIn, isReadable, isWritable, isReadWrite}
+use Rattle.reply.specs.declared.Mark.the-variants.{Accepted}
+use Rattle.reply.specs.declared.Content.{Content}
+use Rattle.reply.specs.Reply.{scanIdentifier}
+use Rattle.act.specs.declared.Setup.{Setup}
+use Rattle.act.specs.declared.Offer.{Offer}
+use Rattle.act.specs.declared.Offer.the-variants.{Nothing, Held}
+use Rattle.act.specs.declared.Effect.{Effect}
+use Rattle.act.specs.declared.Standing.{Standing}
+use Rattle.act.specs.Cause.{rowOrZeros, isOffered, onEntry, onBracket, isFor, causes}
+use Rattle.act.specs.Act.{noEffect, noNumber, says, shownBy, granted, hasScan, valueOf, scanOf, turnedDown, onScan, onRow, respond, act}
+use Rattle.act.specs.Inner.{declines, query, moves, up, down, setTo, store, serve, declinesScan, serveScan, addressed}
+
+module _ (c : Setup) (o : Offer) (m : Message) where
+  -- what the tests come to, where `N` shows x and y is done otherwise
+  abbrev judged : Standing → Content → Effect → Effect
+  judged s x y = decided (first (causes c m s)) (turnedDown o m x) y
+
+  -- ---- on an identifier of the sheets
+
+  module _ (its : isFor c m ≡ true) (v : ℤ) where
+    abbrev on : Entry → Body → Effect
+    on e b = judged (onEntry e o v (m .identifier) b) (shownBy e v) (granted m (rowOrZeros e) o v b)
+
+    query-is : (e : Entry) → on e body.Query ≡ query m e v
+    unfolding first causes onEntry turnedDown granted query declines
+    query-is (Found r) = by-test (isReadable r) (λ t. rw (its, t)) (λ t. rw (its, t))
+    query-is Missing = rw its
+
+    up-is : (e : Entry) → on e body.Up ≡ up m e v
+    unfolding first causes onEntry turnedDown granted up moves declines
+    up-is (Found r) =
+        by-test (isReadWrite r)
+        (λ t. by-test (inRange (r .least) (raised v (r .step)) (r .greatest)) (λ u. rw (its, t, u)) (λ u. rw (its, t, u))) (λ t. rw (its, t))
+    up-is Missing = rw its
+
+    down-is : (e : Entry) → on e body.Down ≡ down m e v
+    unfolding first causes onEntry turnedDown granted down moves declines
+    down-is (Found r) =
+        by-test (isReadWrite r)
+        (λ t. by-test (inRange (r .least) (lowered v (r .step)) (r .greatest)) (λ u. rw (its, t, u)) (λ u. rw (its, t, u))) (λ t. rw (its, t))
+    down-is Missing = rw its
+
+    set-is : (e : Entry) (x : _) → on e (body.Set x) ≡ setTo m e v x
+    unfolding first causes onEntry turnedDown granted setTo declines
+    set-is (Found r) x =
+        by-test (isWritable r)
+        (λ t.
+        by-test (eqb (x .decimals) (r .decimals))
+        (λ u. by-test (inRange (r .least) (x .number) (r .greatest)) (λ w. rw (its, t, u, w)) (λ w. rw (its, t, u, w)))
+        (λ u. rw (its, t, u)))
+        (λ t. rw (its, t))
+    set-is Missing x = rw its
+
+    store-is : (e : Entry) (p : Offer) → o ≡ p → on e body.Store ≡ store m e p
+    unfolding first causes onEntry isOffered turnedDown granted store
+    store-is e (Held i z) q = rw q (by-test (eqb i (m .identifier)) (λ t. rw (its, t)) (λ t. rw (its, t)))
+    store-is e Nothing q = rw q (rw its)
+
+    serve-is : (e : Entry) (b : Body) → on e b ≡ serve m e o v b
+    unfolding first causes onEntry granted serve
+    serve-is e body.Status = rw its
+    serve-is e body.Query = query-is e
+    serve-is e body.Up = up-is e
+    serve-is e body.Down = down-is e
+    serve-is e (body.Set x) = set-is e x
+    serve-is e body.Store = store-is e o refl
+
+  -- ---- on `]`
+
+  module _ (its : isFor c m ≡ true) (x : Content) where
+    scan-is : (b : Body) → judged (onBracket (hasScan c) b) noNumber (says m Accepted x) ≡ serveScan c m x b
+    unfolding first causes onBracket turnedDown serveScan declinesScan
+    scan-is body.Status = by-test (eqb (c .count) 0) (λ t. rw (its, t)) (λ t. rw (its, t))
+    scan-is body.Query = by-test (eqb (c .count) 0) (λ t. rw (its, t)) (λ t. rw (its, t))
+    scan-is body.Up = by-test (eqb (c .count) 0) (λ t. rw (its, t)) (λ t. rw (its, t))
+    scan-is body.Down = by-test (eqb (c .count) 0) (λ t. rw (its, t)) (λ t. rw (its, t))
+    scan-is (body.Set y) = by-test (eqb (c .count) 0) (λ t. rw (its, t)) (λ t. rw (its, t))
+    scan-is body.Store = rw its
+
+  -- ---- for another card
+
+  other-is : (s : Standing) (x : Content) (y : Effect) → isFor c m ≡ false → judged s x y ≡ noEffect o
+  unfolding first causes turnedDown
+  other-is s x y t = rw t
+
+  -- ---- any message
+
+  -- e gives the entry of each identifier, and v its value
+  module _ (e : ℕ → Entry) (v : ℕ → ℤ) where
+    pub row-is : onRow c o e v m ≡ addressed c o m (serve m (e (m .identifier)) o (v (m .identifier)) (m .body))
+    unfolding onRow addressed
+    row-is = by-test (isFor c m) (λ t. serve-is t (v (m .identifier)) (e (m .identifier)) (m .body) ∙ sym (rw t)) (λ t. other-is _ _ _ t ∙ sym (rw t))
+
+    pub bracket-is : onScan c o e v m ≡ addressed c o m (serveScan c m (scanOf c (valueOf e v)) (m .body))
+    unfolding onScan addressed
+    bracket-is = by-test (isFor c m) (λ t. scan-is t (scanOf c (valueOf e v)) (m .body) ∙ sym (rw t)) (λ t. other-is _ _ _ t ∙ sym (rw t))
+
+-- what the card does, by whether the message is on `]`
+module _ (bench maker : List ℤ) (c : Setup) (o : Offer) (values : List ℤ) (m : Message) where
+  pub act-is : act bench maker c o values m
+      ≡ cond (eqb (m .identifier) scanIdentifier)
+      (addressed c o m (serveScan c m (scanOf c (valueOf (entryIn bench maker) (λ (i : ℕ). getD values i (pos 0)))) (m .body)))
+      (addressed c o m (serve m (entryIn bench maker (m .identifier)) o (getD values (m .identifier) (pos 0)) (m .body)))
+  unfolding act respond
+  act-is =
+      ap₂ (cond (eqb (m .identifier) scanIdentifier)) (bracket-is c o m (entryIn bench maker) (λ (i : ℕ). getD values i (pos 0))) (row-is c o m (entryIn bench maker) (λ (i : ℕ). getD values i (pos 0)))
