@@ -4,3 +4,4 @@ pub mod Places
 pub mod Spelling
 pub mod Short
 pub mod Examples
+pub mod Accepted

@@ -5,7 +5,7 @@ use mathlib.Core.List.{List, [], _∷_, _++_}
 use Prim.Native.Nat.{ℕ, _<_, _≤_}
 use Prim.Native.Char.{code}
 use native.Mathlib.Omega.{arith}
-use borrow.Author.Tests.{leb-true, le-leb, eqb-true, ne-eqb}
+use borrow.Author.Tests.{leb-true, le-leb, lt-leb, eqb-true, ne-eqb}
 use lib.Dec.{eqb}
 use Rattle.refusal.proofs.Logic.{ands, and-both, not-is, is-not, or-cases}
 use Rattle.number.specs.Data.{isDigit, fits}
@@ -72,6 +72,10 @@ address-least a e = leb-true 1 a (search ands)
 pub address-most : (a : ℕ) → isAddress a ≡ true → a ≤ 99
 unfolding isAddress
 address-most a e = leb-true a 99 (search ands)
+
+pub address-above : (a : ℕ) → 99 < a → isAddress a ≡ false
+unfolding isAddress
+address-above a h = rw (le-leb 1 a (omega arith), lt-leb a 99 h)
 
 pub identifier-no-digit : (i : ℕ) → isIdentifier i ≡ true → isDigit i ≡ false
 unfolding isIdentifier

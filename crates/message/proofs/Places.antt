@@ -20,7 +20,8 @@ use Rattle.number.proofs.Reading.{read-length}
 use Rattle.message.specs.declared.Message.{Message}
 use Rattle.message.specs.declared.Parsed.{Parsed}
 use Rattle.message.specs.declared.Parsed.the-variants.{Unheard}
-use Rattle.message.specs.Prefix.{Prefix, Start, Digit, Address, Identifier, Complete, Wrong}
+use Rattle.message.specs.declared.Prefix.{Prefix}
+use Rattle.message.specs.declared.Prefix.the-variants.{Start, Digit, Address, Identifier, Complete, Wrong}
 use Rattle.message.specs.Message.{question, isLetter, isAddress, isIdentifier}
 use Rattle.message.specs.Prefix.{extendIdentifier, extendAddress, extendData, extendBody, extend, extendAll, finish, parse}
 use Rattle.message.proofs.Messages.{identifier-no-digit}

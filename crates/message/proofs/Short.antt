@@ -20,7 +20,8 @@ use Rattle.message.specs.declared.Body.{Body}
 use Rattle.message.specs.declared.Body.the-variants.{Status, Query, Up, Down, Set, Store}
 use Rattle.message.specs.declared.Message.{Message}
 use Rattle.message.specs.declared.Parsed.the-variants.{Heard, Unheard}
-use Rattle.message.specs.Prefix.{Prefix, Start, Letter, Digit, Address, Identifier, Digits, Complete, Wrong}
+use Rattle.message.specs.declared.Prefix.{Prefix}
+use Rattle.message.specs.declared.Prefix.the-variants.{Start, Letter, Digit, Address, Identifier, Digits, Complete, Wrong}
 use Rattle.message.specs.Message.{question, star, isLetter, isAddress, isIdentifier}
 use Rattle.message.specs.Prefix.{message, extendIdentifier, extendAddress, extendData, extendBody, extend, extendAll, finish, parse}
 use Rattle.message.specs.Spell.{spellAddress, kindOf, spellKind, spellBody, spellOpen, spell}

@@ -1,3 +1,4 @@
 pub mod Message
 pub mod Prefix
+pub mod Position
 pub mod Spell

@@ -13,18 +13,9 @@ use Rattle.message.specs.declared.Body.the-variants.{Status, Query, Up, 
 use Rattle.message.specs.declared.Message.{Message}
 use Rattle.message.specs.declared.Parsed.{Parsed}
 use Rattle.message.specs.declared.Parsed.the-variants.{Heard, Unheard}
+use Rattle.message.specs.declared.Prefix.{Prefix}
+use Rattle.message.specs.declared.Prefix.the-variants.{Start, Letter, Digit, Address, Identifier, Digits, Complete, Wrong}
 use Rattle.message.specs.Message.{question, isLetter, isAddress, isIdentifier}
-
--- how far the characters of a message have come: `Digit` has one digit of the address, `Address` both, `Digits` stands behind `#`;
--- no well-formed message begins with what is `Wrong`
-pub data Prefix : Type 0 where
-  Start : Prefix
-  Letter : (letter : ℕ) → Prefix
-  Digit Address : (letter address : ℕ) → Prefix
-  Identifier : (letter address identifier : ℕ) → Prefix
-  Digits : (letter address identifier : ℕ) (data′ : Data) → Prefix
-  Complete : Message → Prefix
-  Wrong : Prefix
 
 abbrev pub message : ℕ → ℕ → ℕ → Body → Message
 message l a i b = record { letter = l; address = a; identifier = i; body = b }

@@ -6,7 +6,8 @@ use lib.Dec.{eqb}
 use Rattle.refusal.proofs.Logic.{choice}
 use Rattle.number.specs.Data.{start}
 use Rattle.message.specs.declared.Parsed.the-variants.{Unheard}
-use Rattle.message.specs.Prefix.{Prefix, Digits, Wrong}
+use Rattle.message.specs.declared.Prefix.{Prefix}
+use Rattle.message.specs.declared.Prefix.the-variants.{Digits, Wrong}
 use Rattle.message.specs.Prefix.{extendBody, finish}
 use borrow.Author.Needs.{needs}
 use Rattle.message.proofs.one_sign.Statement.{statement}

@@ -11,7 +11,8 @@ use lib.ListN.{length, getD, drop, length-drop}
 use Rattle.number.specs.Data.{isDigit, digitOf}
 use Rattle.number.proofs.Digits.{digit-ends}
 use Rattle.message.specs.declared.Parsed.{Parsed}
-use Rattle.message.specs.Prefix.{Prefix, Start, Digit, Address}
+use Rattle.message.specs.declared.Prefix.{Prefix}
+use Rattle.message.specs.declared.Prefix.the-variants.{Start, Digit, Address}
 use Rattle.message.specs.Message.{isLetter}
 use Rattle.message.specs.Prefix.{extend, finish, parse}
 use Rattle.message.proofs.Places.{all-more, part-all, leads, past-two, last-two, no-letter, no-digit, first-digit, two-digits, one-digit, wrong-length, one-is-all, too-short}

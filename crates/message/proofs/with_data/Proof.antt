@@ -11,7 +11,8 @@ use lib.ListN.{length, getD, drop, length-drop}
 use Rattle.refusal.proofs.Logic.{and-left, and-right, and-both, not-is}
 use Rattle.number.specs.Data.{readData}
 use Rattle.message.specs.declared.Parsed.the-variants.{Unheard}
-use Rattle.message.specs.Prefix.{Prefix, Address, Identifier}
+use Rattle.message.specs.declared.Prefix.{Prefix}
+use Rattle.message.specs.declared.Prefix.the-variants.{Address, Identifier}
 use Rattle.message.specs.Message.{question, isAddress, isIdentifier}
 use Rattle.message.specs.Prefix.{extendData, extend, finish}
 use Rattle.message.proofs.Places.{part-all, leads, past-two, no-identifier, identifier, no-more, behind-hash}

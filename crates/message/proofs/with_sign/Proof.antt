@@ -5,7 +5,8 @@ use mathlib.Core.List.{[]}
 use borrow.Author.Tests.{not-true, not-false}
 use Rattle.refusal.proofs.Logic.{and-both}
 use Rattle.message.specs.Message.{isAddress}
-use Rattle.message.specs.Prefix.{Prefix, extend, extendAll, finish}
+use Rattle.message.specs.declared.Prefix.{Prefix}
+use Rattle.message.specs.Prefix.{extend, extendAll, finish}
 use Rattle.message.proofs.Places.{no-identifier, identifier}
 use borrow.Author.Needs.{needs}
 use Rattle.message.proofs.with_sign.Statement.{statement}
