@@ -1,15 +1,18 @@
--- Where a message fails: what the count of accepted characters is, for a loop that extends a state by one after the other.
--- Assumes nothing.
-use mathlib.Core.Path.{_≡_, refl}
+-- How many characters are accepted: in a loop that extends a state by one after the other, and as the greatest number that does not lead
+-- to the wrong state. Assumes nothing.
+use mathlib.Core.Path.{_≡_, refl, sym, ap, _∙_}
 use mathlib.Core.Bool.{true, false, false≢true}
 use mathlib.Core.List.{List, [], _∷_}
-use Prim.Native.Nat.{ℕ, suc, _+_, _<_, _≤_}
+use Prim.Native.Nat.{ℕ, zero, suc, _+_, _<_, _≤_}
 use native.Mathlib.Numerals.{add-one}
-use lib.ListN.{length, getD, drop, drop-of-length-le}
+use native.Mathlib.Omega.{arith}
+use lib.Dec.{lit≤}
+use lib.ListN.{length, getD, take, drop, drop-of-length-le}
 use lib.Seq.{drop-cons}
+use Rattle.refusal.proofs.Logic.{choice}
 use Rattle.message.specs.declared.Prefix.{Prefix}
 use Rattle.message.specs.declared.Prefix.the-variants.{Start, Letter, Digit, Address, Identifier, Digits, Complete, Wrong}
-use Rattle.message.specs.Prefix.{extend}
+use Rattle.message.specs.Prefix.{extend, extendAll}
 use Rattle.message.specs.Position.{isWrong, accepted}
 
 -- ---- the one wrong state
@@ -41,3 +44,32 @@ module _ (s : Prefix) (cs : List ℕ) (i : ℕ) where
         → accepted s (drop i cs) ≡ suc (accepted (extend s (getD cs i 0)) (drop (i + 1) cs))
     unfolding accepted
     accepted-on e = rw (add-one, drop-cons cs i 0 h) (rw e)
+
+-- ---- the greatest number of characters that does not lead to the wrong state
+
+pub wrong-all : (cs : List ℕ) → extendAll Wrong cs ≡ Wrong
+unfolding extendAll extend
+wrong-all [] = refl
+wrong-all (c ∷ cs) = wrong-all cs
+
+pub accepted-most : (s : Prefix) (cs : List ℕ) → accepted s cs ≤ length cs
+unfolding accepted
+accepted-most s [] = lit≤ tt
+accepted-most s (c ∷ cs) =
+    choice (λ (n : ℕ). n ≤ suc (length cs)) (isWrong (extend s c)) (λ t. omega arith) (λ t. omega (arith, accepted-most (extend s c) cs))
+
+pub accepted-stays : (s : Prefix) (cs : List ℕ) → isWrong s ≡ false → isWrong (extendAll s (take (accepted s cs) cs)) ≡ false
+unfolding accepted extendAll
+accepted-stays s [] e = e
+accepted-stays s (c ∷ cs) e =
+    choice (λ (n : ℕ). isWrong (extendAll s (take n (c ∷ cs))) ≡ false) (isWrong (extend s c))
+    (λ t. e) (λ t. accepted-stays (extend s c) cs t)
+
+pub accepted-greatest : (s : Prefix) (cs : List ℕ) (n : ℕ) → n ≤ length cs → isWrong (extendAll s (take n cs)) ≡ false → n ≤ accepted s cs
+unfolding accepted extendAll isWrong
+accepted-greatest s cs zero h e = omega arith
+accepted-greatest s [] (suc n) h e = absurd (omega arith)
+accepted-greatest s (c ∷ cs) (suc n) h e =
+    choice (λ (k : ℕ). suc n ≤ k) (isWrong (extend s c))
+    (λ t. absurd (false≢true (sym e ∙ ap isWrong (ap (λ (u : Prefix). extendAll u (take n cs)) (wrong-is (extend s c) t) ∙ wrong-all (take n cs)))))
+    (λ t. omega (arith, accepted-greatest (extend s c) cs n (omega arith) e))

@@ -5,3 +5,4 @@ pub mod Spelling
 pub mod Short
 pub mod Examples
 pub mod Accepted
+pub mod Completion

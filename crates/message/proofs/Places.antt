@@ -200,18 +200,21 @@ one-is-all l d (c ∷ cs) f g =
     ∙ sym (digit-behind l d c cs t))
     (λ t. ap (λ (s : Prefix). leads s cs) (one-digit l d c t))
 
--- fewer than four characters are no message
-pub too-short : (cs : List ℕ) → length cs < 4 → parse cs ≡ Unheard
+-- a message has four to ten characters
+pub wrong-count : (cs : List ℕ) → (4 ≤ length cs → length cs ≤ 10 → ⊥) → parse cs ≡ Unheard
 unfolding parse extendAll extend finish
-too-short [] h = refl
-too-short (l ∷ []) h = choice (λ (s : Prefix). finish s ≡ Unheard) (isLetter l) (λ t. refl) (λ t. refl)
-too-short (l ∷ d ∷ cs) h =
+wrong-count [] f = refl
+wrong-count (l ∷ []) f = choice (λ (s : Prefix). finish s ≡ Unheard) (isLetter l) (λ t. refl) (λ t. refl)
+wrong-count (l ∷ d ∷ cs) f =
     by-test (isLetter l)
     (λ t.
     by-test (isDigit d)
     (λ u.
     ap (λ (s : Prefix). leads s cs) (first-digit l d t u)
-    ∙ one-is-all l (digitOf d) cs (λ e. omega arith) (λ e. omega arith)
-    ∙ no-body l (digitOf d) cs (omega arith))
+    ∙ one-is-all l (digitOf d) cs (λ e. f (omega arith) (omega arith)) (λ e. f (omega arith) (omega arith))
+    ∙ wrong-length l (digitOf d) cs (λ e. f (omega arith) (omega arith)) (λ e. f (omega arith) (omega arith)))
     (λ u. no-digit l d cs t u))
     (λ t. no-letter l d cs t)
+
+pub too-short : (cs : List ℕ) → length cs < 4 → parse cs ≡ Unheard
+too-short cs h = wrong-count cs (λ a b. omega arith)

@@ -126,6 +126,12 @@ read-as-next : (x : Data) (c : ℕ) → ReadAs x → ReadAs (readNext x c)
 unfolding readFrom
 read-as-next x c r = record { chars = r .chars ++ (c ∷ []); reads = read-more (r .chars) (c ∷ []) ∙ ap (λ (y : Data). readNext y c) (r .reads) }
 
+-- fewer than five digits
+abbrev pub Unfinished : Data → Type 0
+Unfinished (Partial k n) = Unit {0}
+Unfinished (Number x) = ⊥
+Unfinished Invalid = ⊥
+
 -- what is known of a state by the characters read so far
 abbrev pub Known : Prefix → Type 0
 Known Start = Unit {0}
@@ -133,7 +139,7 @@ Known (Letter l) = isLetter l ≡ true
 Known (Digit l d) = (isLetter l ≡ true) × (d ≤ 9)
 Known (Address l a) = (isLetter l ≡ true) × (isAddress a ≡ true)
 Known (Identifier l a i) = (isLetter l ≡ true) × (isAddress a ≡ true) × (isIdentifier i ≡ true)
-Known (Digits l a i x) = (isLetter l ≡ true) × (isAddress a ≡ true) × (isIdentifier i ≡ true) × (not (eqb i question) ≡ true) × ReadAs x
+Known (Digits l a i x) = (isLetter l ≡ true) × (isAddress a ≡ true) × (isIdentifier i ≡ true) × (not (eqb i question) ≡ true) × ReadAs x × Unfinished x
 Known (Complete m) = Parts m
 Known Wrong = Unit {0}
 
@@ -147,7 +153,7 @@ known-address l d c p = choice Known (isAddress (d * 10 + digitOf c)) (λ t. (p,
 
 known-data : (l a i : ℕ) (x : Data) → isLetter l ≡ true → isAddress a ≡ true → isIdentifier i ≡ true → not (eqb i question) ≡ true → ReadAs x → Known (extendData l a i x)
 unfolding extendData fitsBody
-known-data l a i (Partial k n) p q r o h = (p, q, r, o, h)
+known-data l a i (Partial k n) p q r o h = (p, q, r, o, h, tt)
 known-data l a i (Number x) p q r o h = record { is-letter = p; is-address = q; is-identifier = r; fits-body = and-both o (read-fits (h .chars) x (h .reads)) }
 known-data l a i Invalid p q r o h = tt
 
@@ -162,7 +168,7 @@ known-body l a i c p q r =
     (λ _. choice Known (eqb c (code "+")) (λ _. made Up o)
     (λ _. choice Known (eqb c (code "-")) (λ _. made Down o)
     (λ _. choice Known (eqb c (code "I")) (λ _. made Store o)
-    (λ _. choice Known (eqb c (code "#")) (λ _. (p, q, r, o, read-as-start)) (λ _. tt))))))
+    (λ _. choice Known (eqb c (code "#")) (λ _. (p, q, r, o, read-as-start, tt)) (λ _. tt))))))
   where
     made : (b : Body) → fitsBody i b ≡ true → Parts (message l a i b)
     made b e = record { is-letter = p; is-address = q; is-identifier = r; fits-body = e }
