@@ -1,13 +1,15 @@
--- Messages by computing the definitions, for the computed cases of other crates; and addresses of one and of two digits.
--- Assumes nothing.
+-- Messages by computing the definitions, for the computed cases of other crates; addresses of one and of two digits; and where a
+-- message fails. Assumes nothing.
 use mathlib.Core.Path.{_≡_, refl}
 use mathlib.Core.Bool.{Bool, true, false, not, _&&_}
 use mathlib.Core.List.{List, [], _∷_}
 use Prim.Native.Nat.{ℕ, _+_, _/_, _%_, _<_, _≤_}
 use Prim.Native.Char.{code}
+use Prim.Native.String.{String}
 use borrow.Author.Tests.{ltb-true, le-leb, lt-leb}
 use lib.Dec.{ltb, eqb}
 use lib.IntN.{pos}
+use Rattle.refusal.specs.Lists.{every}
 use Rattle.refusal.proofs.Logic.{and-left, and-right, not-is}
 use Rattle.wire.specs.Text.{chars}
 use Rattle.number.specs.Data.{digit, isDigit, digitOf, decode, readNext, withDecimals}
@@ -15,6 +17,7 @@ use Rattle.message.specs.declared.Body.the-variants.{Query, Set}
 use Rattle.message.specs.declared.Parsed.the-variants.{Heard}
 use Rattle.message.specs.Message.{star, isLetter, isAddress, isIdentifier}
 use Rattle.message.specs.Prefix.{message, extendIdentifier, extendAddress, extendData, extendBody, extend, extendAll, finish, parse}
+use Rattle.message.specs.Position.{isWrong, accepted, position}
 use Rattle.message.specs.Spell.{spellAddress}
 use Rattle.message.proofs.Messages.{Plain}
 
@@ -56,3 +59,15 @@ query-parsed = refl
 pub set-parsed : parse (chars "L7m#00231") ≡ Heard (message (code "L") 7 (code "m") (Set (withDecimals (pos 23) 1)))
 unfolding isDigit digitOf decode readNext isLetter isAddress isIdentifier extendIdentifier extendAddress extendData extendBody extend extendAll finish parse
 set-parsed = refl
+
+-- ---- where a message fails
+
+abbrev failsAt : String × ℕ → Bool
+failsAt x = eqb (position (chars (x .0))) (x .1)
+
+-- the `*` stands behind these
+pub positions : every failsAt (
+    ("L0??", 2) ∷ ("L00M?", 2) ∷ ("L100M?", 3) ∷ ("L", 1) ∷ ("L7", 2) ∷ ("L7M", 3) ∷ ("L7?+", 3) ∷ ("L7??x", 4) ∷ ("L8M!", 3)
+    ∷ ("L7m#1234", 8) ∷ ("L7m#00304", 8) ∷ ("L7m#000001", 9) ∷ []) ≡ true
+unfolding every isDigit digitOf decode readNext isLetter isAddress isIdentifier extendIdentifier extendAddress extendData extendBody extend isWrong accepted position
+positions = refl
