@@ -71,5 +71,7 @@ accepted-greatest s cs zero h e = omega arith
 accepted-greatest s [] (suc n) h e = absurd (omega arith)
 accepted-greatest s (c ∷ cs) (suc n) h e =
     choice (λ (k : ℕ). suc n ≤ k) (isWrong (extend s c))
-    (λ t. absurd (false≢true (sym e ∙ ap isWrong (ap (λ (u : Prefix). extendAll u (take n cs)) (wrong-is (extend s c) t) ∙ wrong-all (take n cs)))))
+    (λ t.
+    let wrong = ap (λ (u : Prefix). extendAll u (take n cs)) (wrong-is (extend s c) t) ∙ wrong-all (take n cs) in
+    absurd (false≢true (sym e ∙ ap isWrong wrong)))
     (λ t. omega (arith, accepted-greatest (extend s c) cs n (omega arith) e))

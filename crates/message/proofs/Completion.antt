@@ -105,7 +105,8 @@ right-possible xs e =
     )
 
 -- without a `*`, they stand before the one that closes the message
-split : (xs rest open′ : List ℕ) → Plain xs → xs ++ rest ≡ open′ ++ (star ∷ []) → (ys : List ℕ) × (open′ ≡ xs ++ ys) × (rest ≡ ys ++ (star ∷ []))
+split : (xs rest cs : List ℕ) → Plain xs → xs ++ rest ≡ cs ++ (star ∷ [])
+    → (ys : List ℕ) × (cs ≡ xs ++ ys) × (rest ≡ ys ++ (star ∷ []))
 split [] rest cs p e = (cs, refl, e)
 split (x ∷ xs) rest [] p e = absurd (false≢true (sym (p .0 .no-star) ∙ eq-eqb x star (head-eq-of-cons-eq e)))
 split (x ∷ xs) rest (c ∷ cs) p e =
@@ -145,12 +146,18 @@ possible-heard : (cs : List ℕ) → Plain cs → Possible (cs ++ (star ∷ []))
 unfolding parse extendAll
 possible-heard cs p w =
     let r = split cs (star ∷ w .0) (w .1 .characters) p (sym (append-assoc cs (star ∷ []) (w .0)) ∙ w .1 .closed) in
-    (w .1 .message, go (r .0) (r .2) (ap finish (sym (all-append Start cs (r .0)) ∙ ap (extendAll Start) (sym (r .1))) ∙ w .1 .heard))
+    (m, go (r .0) (r .2) (ap finish (sym (all-append Start cs (r .0)) ∙ ap (extendAll Start) (sym (r .1))) ∙ w .1 .heard))
   where
-    go : (ys : List ℕ) → star ∷ w .0 ≡ ys ++ (star ∷ []) → leads (extendAll Start cs) ys ≡ Heard (w .1 .message) → leads (extendAll Start cs) [] ≡ Heard (w .1 .message)
+    s : Prefix
+    s = extendAll Start cs
+
+    m : Message
+    m = w .1 .message
+
+    go : (ys : List ℕ) → star ∷ w .0 ≡ ys ++ (star ∷ []) → leads s ys ≡ Heard m → leads s [] ≡ Heard m
     go [] q e = e
     go (y ∷ ys) q e =
-        let wrong : extend (extendAll Start cs) y ≡ Wrong = ap (extend (extendAll Start cs)) (sym (head-eq-of-cons-eq q)) ∙ star-wrong (extendAll Start cs) in
+        let wrong : extend s y ≡ Wrong = ap (extend s) (sym (head-eq-of-cons-eq q)) ∙ star-wrong s in
         absurd (unheard (sym (ap (λ (u : Prefix). leads u ys) wrong ∙ wrong-stays ys) ∙ e))
 
 -- ---- the first place that no well-formed message could have
@@ -173,7 +180,7 @@ impossible-once xs p q i j =
     (λ u. absurd (j .behind (possible-shorter (suc q) p xs (ltb-true q p u) (i .before))))
     (λ u. omega (arith, ltb-false p q t, ltb-false q p u)))
 
-well-formed-never : (xs : List ℕ) → WellFormed xs → (p : ℕ) → Impossible xs p → ⊥
+pub well-formed-never : (xs : List ℕ) → WellFormed xs → (p : ℕ) → Impossible xs p → ⊥
 well-formed-never xs w p i = i .behind (possible-take (suc p) xs ([], subst WellFormed (sym (append-nil xs)) w))
 
 plain-take : (n : ℕ) (cs : List ℕ) → Plain cs → Plain (take n cs)
@@ -195,13 +202,14 @@ module _ (cs : List ℕ) (plain : Plain cs) where
   position-is e = record {
     inside = omega (arith, accepted-most Start cs, length-append cs (star ∷ []));
     before =
-        subst Possible (sym (take-append-le p cs (star ∷ []) (accepted-most Start cs))) (right-possible (take p cs) (accepted-stays Start cs refl));
+        subst Possible (sym (take-append-le p cs (star ∷ []) (accepted-most Start cs)))
+        (right-possible (take p cs) (accepted-stays Start cs refl));
     behind = λ w.
         by-test (ltb p (length cs))
         (λ t.
         let h = ltb-true p (length cs) t in
-        let right = possible-right (take (suc p) cs) (plain-take (suc p) cs plain) (subst Possible (take-append-le (suc p) cs (star ∷ []) h) w) in
-        omega (arith, accepted-greatest Start cs (suc p) h right))
+        let v = subst Possible (take-append-le (suc p) cs (star ∷ []) h) w in
+        omega (arith, accepted-greatest Start cs (suc p) h (possible-right (take (suc p) cs) (plain-take (suc p) cs plain) v)))
         (λ t.
         let all = take-all (suc p) closed-cs (omega (arith, ltb-false p (length cs) t, length-append cs (star ∷ []))) in
         unheard (sym e ∙ possible-heard cs plain (subst Possible all w) .1));
@@ -210,16 +218,19 @@ module _ (cs : List ℕ) (plain : Plain cs) where
       p : ℕ
       p = accepted Start cs
 
+  well-formed : (m : Message) → parse cs ≡ Heard m → WellFormed closed-cs
+  well-formed m e = record { characters = cs; message = m; closed = refl; heard = e }
+
   pub position-only : (p : ℕ) → Impossible closed-cs p → (parse cs ≡ Unheard) × (p ≡ position cs)
   position-only p i =
       by-parsed (parse cs)
-      (λ m e. absurd (well-formed-never closed-cs (record { characters = cs; message = m; closed = refl; heard = e }) p i))
+      (λ m e. absurd (well-formed-never closed-cs (well-formed m e) p i))
       (λ e. (e, impossible-once closed-cs p (position cs) i (position-is e)))
 
   pub well-formed-is : WellFormed closed-cs ↔ ((p : ℕ) → Impossible closed-cs p → ⊥)
   well-formed-is = (
     well-formed-never closed-cs,
-    λ f. by-parsed (parse cs) (λ m e. record { characters = cs; message = m; closed = refl; heard = e }) (λ e. absurd (f (position cs) (position-is e))),
+    λ f. by-parsed (parse cs) well-formed (λ e. absurd (f (position cs) (position-is e))),
   )
 
 -- ---- its least and its greatest
@@ -232,11 +243,12 @@ position-least c cs e = rw (extend-letter c e) (omega arith)
 pub position-most : (cs : List ℕ) → length cs ≤ 10 → parse cs ≡ Unheard → position cs ≤ 9
 unfolding position parse extendAll isWrong
 position-most cs h e =
-    by-test (ltb (accepted Start cs) (length cs))
-    (λ t. omega (arith, ltb-true (accepted Start cs) (length cs) t))
+    let p = accepted Start cs in
+    by-test (ltb p (length cs))
+    (λ t. omega (arith, ltb-true p (length cs) t))
     (λ t.
-    let all = take-all (accepted Start cs) cs (ltb-false (accepted Start cs) (length cs) t) in
-    let right : isWrong (extendAll Start cs) ≡ false = subst (λ (xs : List ℕ). isWrong (extendAll Start xs) ≡ false) all (accepted-stays Start cs refl) in
+    let all = take-all p cs (ltb-false p (length cs) t) in
+    let right = subst (λ (xs : List ℕ). isWrong (extendAll Start xs) ≡ false) all (accepted-stays Start cs refl) in
     let r = completion (extendAll Start cs) (known-scan Start cs tt) right in
     omega (arith, accepted-most Start cs, open-most (r .rest) (r .made) (r .heard)))
   where

@@ -1,6 +1,5 @@
 // A message: read, tested, spelled, and written.
 ghost use mathlib.Core.Path.{_≡_};
-ghost use mathlib.Core.Bool.{true};
 ghost use Prim.Native.Nat.{_≤_};
 ghost use lib.ListN.{length};
 ghost use mathlib.Core.List.{[], _∷_};
@@ -8,15 +7,16 @@ ghost use Rattle.refusal.specs.Call.{callOf};
 ghost use Rattle.wire.specs.Word.{travelling};
 ghost use Rattle.wire.specs.Inner.{puts, lineOf};
 ghost use Rattle.message.specs.Message.{star, isLetter, isAddress, isIdentifier, fitsBody, isMessage};
-ghost use Rattle.number.specs.Data.{isDigit, spellData, readData};
-ghost use Rattle.message.specs.Prefix.{message, extendIdentifier, extendAddress, extendData, extendBody, extend, extendAll, finish, parse};
-ghost use Rattle.message.specs.Position.{isWrong, position};
+ghost use Rattle.number.specs.Data.{spellData, readData};
+ghost use Rattle.message.specs.Prefix.{message, extend, extendBody, extendData, extendAll, finish, parse};
 ghost use Rattle.message.specs.Spell.{spellAddress, kindOf, spellBody, spell, writeCall};
 use number::Data;
 use number::Decimal;
 use refusal::Refusal;
 use refusal::Written;
 use wire::Line;
+
+pub mod recogniser;
 
 // Type 1; Type 2 with `?`, `+` and `-`; Type 3; Type 4.
 pub enum Body {
@@ -47,10 +47,25 @@ pub enum Parsed {
 pub enum Prefix {
     Start,
     Letter(u8),
-    Digit { letter: u8, address: u8 },
-    Address { letter: u8, address: u8 },
-    Identifier { letter: u8, address: u8, identifier: u8 },
-    Digits { letter: u8, address: u8, identifier: u8, read: Data },
+    Digit {
+        letter: u8,
+        address: u8,
+    },
+    Address {
+        letter: u8,
+        address: u8,
+    },
+    Identifier {
+        letter: u8,
+        address: u8,
+        identifier: u8,
+    },
+    Digits {
+        letter: u8,
+        address: u8,
+        identifier: u8,
+        read: Data,
+    },
     Complete(Message),
     Wrong,
 }
@@ -232,164 +247,6 @@ pub fn parse(characters: &[u8]) -> Parsed
         at = 3;
     }
     with_data(letter, address, &characters[at..])
-}
-
-fn complete(letter: u8, address: u8, identifier: u8, body: Body) -> Prefix
-    ensures { λ r. ⌜ r ≡ Prefix.Complete (message letter address identifier body) ⌝ }
-{
-    Prefix::Complete(Message {
-        letter,
-        address,
-        identifier,
-        body,
-    })
-}
-
-// The address is complete, and c stands behind it.
-fn extend_identifier(letter: u8, address: u8, c: u8) -> Prefix
-    ensures { λ r. ⌜ r ≡ extendIdentifier letter address c ⌝ }
-{
-    if is_address(address) & is_identifier(c) {
-        Prefix::Identifier {
-            letter,
-            address,
-            identifier: c,
-        }
-    } else {
-        Prefix::Wrong
-    }
-}
-
-// A digit behind the first digit of an address. Behind more than 9 it makes no address.
-fn extend_address(letter: u8, first: u8, c: u8) -> Prefix
-    requires { ⌜ isDigit c ≡ true ⌝ }
-    ensures { λ r. ⌜ r ≡ extendAddress letter first c ⌝ }
-{
-    if 9 < first {
-        return Prefix::Wrong;
-    }
-    let address = first * 10 + (c - 48);
-    if is_address(address) {
-        Prefix::Address { letter, address }
-    } else {
-        Prefix::Wrong
-    }
-}
-
-// Data that has been read so far behind `#`.
-fn extend_data(letter: u8, address: u8, identifier: u8, read: Data) -> Prefix
-    ensures { λ r. ⌜ r ≡ extendData letter address identifier read ⌝ }
-{
-    match read {
-        Data::Partial { count: _, value: _ } => Prefix::Digits {
-            letter,
-            address,
-            identifier,
-            read,
-        },
-        Data::Number(x) => complete(letter, address, identifier, Body::Set(x)),
-        Data::Invalid => Prefix::Wrong,
-    }
-}
-
-// One character behind an identifier.
-fn extend_body(letter: u8, address: u8, identifier: u8, c: u8) -> Prefix
-    ensures { λ r. ⌜ r ≡ extendBody letter address identifier c ⌝ }
-{
-    if c == b'?' {
-        if identifier == b'?' {
-            return complete(letter, address, identifier, Body::Status);
-        }
-        return complete(letter, address, identifier, Body::Query);
-    }
-    if identifier == b'?' {
-        return Prefix::Wrong;
-    }
-    if c == b'+' {
-        return complete(letter, address, identifier, Body::Up);
-    }
-    if c == b'-' {
-        return complete(letter, address, identifier, Body::Down);
-    }
-    if c == b'I' {
-        return complete(letter, address, identifier, Body::Store);
-    }
-    if c == b'#' {
-        let read = Data::Partial { count: 0, value: 0 };
-        return Prefix::Digits {
-            letter,
-            address,
-            identifier,
-            read,
-        };
-    }
-    Prefix::Wrong
-}
-
-// One character more.
-pub fn extend(prefix: Prefix, c: u8) -> Prefix
-    ensures { λ r. ⌜ r ≡ extend prefix c ⌝ }
-{
-    match prefix {
-        Prefix::Start => {
-            if is_letter(c) {
-                return Prefix::Letter(c);
-            }
-            Prefix::Wrong
-        }
-        Prefix::Letter(letter) => {
-            if number::is_digit(c) {
-                let address = c - 48;
-                return Prefix::Digit { letter, address };
-            }
-            Prefix::Wrong
-        }
-        Prefix::Digit { letter, address } => {
-            if number::is_digit(c) {
-                return extend_address(letter, address, c);
-            }
-            extend_identifier(letter, address, c)
-        }
-        Prefix::Address { letter, address } => extend_identifier(letter, address, c),
-        Prefix::Identifier {
-            letter,
-            address,
-            identifier,
-        } => extend_body(letter, address, identifier, c),
-        Prefix::Digits {
-            letter,
-            address,
-            identifier,
-            read,
-        } => extend_data(letter, address, identifier, number::read_next(read, c)),
-        Prefix::Complete(_) => Prefix::Wrong,
-        Prefix::Wrong => Prefix::Wrong,
-    }
-}
-
-fn is_wrong(prefix: Prefix) -> bool
-    ensures { λ r. ⌜ r ≡ isWrong prefix ⌝ }
-{
-    match prefix {
-        Prefix::Wrong => true,
-        _ => false,
-    }
-}
-
-// The place of the first character that no well-formed message could have there after those before it; the `*` stands behind them.
-pub fn position(characters: &[u8]) -> usize
-    ensures { λ r. ⌜ r ≡ position (now (characters .entry)) ⌝ }
-{
-    let mut prefix = Prefix::Start;
-    let mut at = 0;
-    while at < characters.len() {
-        prefix = extend(prefix, characters[at]);
-        if is_wrong(prefix) {
-            break;
-        }
-        at += 1;
-    }
-    at
 }
 
 // An address without a leading zero.

@@ -3,8 +3,8 @@ use mathlib.Core.Path.{sym, ap₂, _∙_}
 use mathlib.Core.Bool.{_&&_}
 use Rattle.message.specs.Prefix.{extendIdentifier}
 use borrow.Author.Needs.{needs}
-use Rattle.message.proofs.extend_identifier.Statement.{statement}
-use Rattle.message.proofs.extend_identifier.Tie as tie
+use Rattle.message.proofs.recogniser.extend_identifier.Statement.{statement}
+use Rattle.message.proofs.recogniser.extend_identifier.Tie as tie
 
 returns : tie.Need-returns
 unfolding extendIdentifier

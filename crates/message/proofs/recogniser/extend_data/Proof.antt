@@ -1,9 +1,9 @@
 -- `message::extend_data` meets its contract: the arm taken says what has been read. Assumes nothing.
-use mathlib.Core.Path.{sym, ap, _∙_}
+use mathlib.Core.Path.{sym, _∙_}
 use Rattle.message.specs.Prefix.{extendData}
 use borrow.Author.Needs.{needs}
-use Rattle.message.proofs.extend_data.Statement.{statement}
-use Rattle.message.proofs.extend_data.Tie as tie
+use Rattle.message.proofs.recogniser.extend_data.Statement.{statement}
+use Rattle.message.proofs.recogniser.extend_data.Tie as tie
 
 returns : tie.Need-returns
 unfolding extendData

@@ -7,8 +7,8 @@ use Rattle.number.proofs.Digits.{digit-ends}
 use Rattle.message.specs.Prefix.{extendAddress}
 use Rattle.message.proofs.Messages.{address-above}
 use borrow.Author.Needs.{needs}
-use Rattle.message.proofs.extend_address.Statement.{statement}
-use Rattle.message.proofs.extend_address.Tie as tie
+use Rattle.message.proofs.recogniser.extend_address.Statement.{statement}
+use Rattle.message.proofs.recogniser.extend_address.Tie as tie
 
 returns : tie.Need-returns
 unfolding extendAddress

@@ -1,11 +1,11 @@
 -- `message::extend` meets its contract: the arm taken says which state it is. Assumes nothing.
-use mathlib.Core.Path.{_≡_, sym, ap, _∙_}
+use mathlib.Core.Path.{sym, ap, _∙_}
 use Rattle.number.specs.Data.{digitOf}
 use Rattle.number.proofs.Digits.{digit-ends}
 use Rattle.message.specs.Prefix.{extendData, extend}
 use borrow.Author.Needs.{needs}
-use Rattle.message.proofs.extend.Statement.{statement}
-use Rattle.message.proofs.extend.Tie as tie
+use Rattle.message.proofs.recogniser.extend.Statement.{statement}
+use Rattle.message.proofs.recogniser.extend.Tie as tie
 
 returns : tie.Need-returns
 unfolding extend
@@ -25,7 +25,8 @@ returns-3 : tie.Need-returns-3
 unfolding extend
 returns-3 c =
     let t = c .before in
-    c .extend-address .ensures ∙ sym (rw (t .before .before .before .prefix2 .given .1) (rw (sym (t .before .is-digit2 .ensures) ∙ t .if3 .taken)))
+    c .extend-address .ensures
+    ∙ sym (rw (t .before .before .before .prefix2 .given .1) (rw (sym (t .before .is-digit2 .ensures) ∙ t .if3 .taken)))
 
 returns-4 : tie.Need-returns-4
 unfolding extend
@@ -39,7 +40,8 @@ returns-6 : tie.Need-returns-6
 unfolding extend
 returns-6 c =
     let t = c .before in
-    c .extend-identifier .ensures ∙ sym (rw (t .before .before .before .prefix2 .given .1) (rw (sym (t .before .is-digit2 .ensures) ∙ t .if3 .left)))
+    c .extend-identifier .ensures
+    ∙ sym (rw (t .before .before .before .prefix2 .given .1) (rw (sym (t .before .is-digit2 .ensures) ∙ t .if3 .left)))
 
 returns-7 : tie.Need-returns-7
 unfolding extend
@@ -51,7 +53,9 @@ returns-8 c = c .extend-body .ensures ∙ sym (rw (c .before .before .prefix4 .g
 
 returns-9 : tie.Need-returns-9
 unfolding extend
-returns-9 c = c .extend-data .ensures ∙ ap (extendData _ _ _) (c .before .read-next .ensures) ∙ sym (rw (c .before .before .before .prefix5 .given .1))
+returns-9 c =
+    let r = c .before in
+    c .extend-data .ensures ∙ ap (extendData _ _ _) (r .read-next .ensures) ∙ sym (rw (r .before .before .prefix5 .given .1))
 
 returns-10 : tie.Need-returns-10
 unfolding extend

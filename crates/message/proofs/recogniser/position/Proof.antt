@@ -1,9 +1,9 @@
 -- `message::position` meets its contract. The loop's invariant: what is accepted from here on, behind what was, is the position.
 -- Assumes nothing.
-use mathlib.Core.Path.{_≡_, refl, sym, ap, _∙_}
+use mathlib.Core.Path.{_≡_, sym, ap, _∙_}
 use mathlib.Core.Bool.{Bool, true, false}
 use mathlib.Core.List.{List}
-use Prim.Native.Nat.{ℕ, _+_, _-_}
+use Prim.Native.Nat.{ℕ, _+_, _-_, _<_}
 use native.Mathlib.Omega.{arith}
 use lib.ListN.{length, getD, drop}
 use Rattle.message.specs.declared.Prefix.{Prefix}
@@ -11,8 +11,8 @@ use Rattle.message.specs.Prefix.{extend}
 use Rattle.message.specs.Position.{isWrong, accepted, position}
 use Rattle.message.proofs.Accepted.{accepted-end, accepted-here, accepted-on}
 use borrow.Author.Needs.{needs}
-use Rattle.message.proofs.position.Statement.{statement}
-use Rattle.message.proofs.position.Tie as tie
+use Rattle.message.proofs.recogniser.position.Statement.{statement}
+use Rattle.message.proofs.recogniser.position.Tie as tie
 
 abbrev Inv-loop : tie.InvT-loop
 Inv-loop characters prefix₀ at₀ prefix at = at + accepted prefix (drop at characters) ≡ position characters
@@ -44,22 +44,26 @@ module _ (w : tie.After-is-wrong Inv-loop μ-loop) where
   tested : (b : Bool) → w .is-wrong .result ≡ b → isWrong (extend (l .loop .prefix) (getD cs (l .loop .at) 0)) ≡ b
   tested b e = ap isWrong (sym (w .before .extend .ensures)) ∙ sym (w .is-wrong .ensures) ∙ e
 
+  in-turn : l .loop .at < length cs
+  in-turn = w .before .before .before .loop-test .taken
+
 loop-again : tie.Need-loop-again Inv-loop μ-loop
 loop-again c =
     let w = c .before in
     let at = l w .loop .at in
-    let on = accepted-on (l w .loop .prefix) (cs w) at (w .before .before .before .loop-test .taken) (tested w false (c .if1 .left)) in
+    let on = accepted-on (l w .loop .prefix) (cs w) at (in-turn w) (tested w false (c .if1 .left)) in
     ap (λ (s : Prefix). at + 1 + accepted s (drop (at + 1) (cs w))) (w .before .extend .ensures) ∙ omega (arith, on, l w .loop .inv)
 
 returns : tie.Need-returns Inv-loop μ-loop
 returns c =
     let l = c .before in
-    omega (arith, accepted-end (l .loop .prefix) (l .before .before .args .characters .now) (l .loop .at) (c .loop-test .left), l .loop .inv)
+    let end = accepted-end (l .loop .prefix) (l .before .before .args .characters .now) (l .loop .at) (c .loop-test .left) in
+    omega (arith, end, l .loop .inv)
 
 returns-2 : tie.Need-returns-2 Inv-loop μ-loop
 returns-2 c =
     let w = c .before in
-    let here = accepted-here (l w .loop .prefix) (cs w) (l w .loop .at) (w .before .before .before .loop-test .taken) (tested w true (c .if1 .taken)) in
+    let here = accepted-here (l w .loop .prefix) (cs w) (l w .loop .at) (in-turn w) (tested w true (c .if1 .taken)) in
     omega (arith, here, l w .loop .inv)
 
 pub position-spec : {M : Type 1} → statement M

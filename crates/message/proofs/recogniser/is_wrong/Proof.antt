@@ -6,8 +6,8 @@ use Rattle.refusal.proofs.Logic.{by-test}
 use Rattle.message.specs.Position.{isWrong}
 use Rattle.message.proofs.Accepted.{wrong-is}
 use borrow.Author.Needs.{needs}
-use Rattle.message.proofs.is_wrong.Statement.{statement}
-use Rattle.message.proofs.is_wrong.Tie as tie
+use Rattle.message.proofs.recogniser.is_wrong.Statement.{statement}
+use Rattle.message.proofs.recogniser.is_wrong.Tie as tie
 
 returns : tie.Need-returns
 unfolding isWrong

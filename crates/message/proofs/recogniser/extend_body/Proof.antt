@@ -3,8 +3,8 @@ use mathlib.Core.Path.{sym, _∙_}
 use borrow.Author.Tests.{eq-eqb, ne-eqb}
 use Rattle.message.specs.Prefix.{extendBody}
 use borrow.Author.Needs.{needs}
-use Rattle.message.proofs.extend_body.Statement.{statement}
-use Rattle.message.proofs.extend_body.Tie as tie
+use Rattle.message.proofs.recogniser.extend_body.Statement.{statement}
+use Rattle.message.proofs.recogniser.extend_body.Tie as tie
 
 returns : tie.Need-returns
 unfolding extendBody
@@ -29,7 +29,13 @@ unfolding extendBody
 returns-5 c =
     let f = c .before .before in
     let e = f .before in
-    c .complete4 .ensures ∙ sym (rw (ne-eqb _ _ (e .if3 .left), ne-eqb _ _ (e .before .if1 .left), ne-eqb _ _ (f .if4 .left), eq-eqb _ _ (c .before .if5 .taken)))
+    c .complete4 .ensures
+    ∙ sym (rw (
+      ne-eqb _ _ (e .if3 .left),
+      ne-eqb _ _ (e .before .if1 .left),
+      ne-eqb _ _ (f .if4 .left),
+      eq-eqb _ _ (c .before .if5 .taken),
+    ))
 
 returns-6 : tie.Need-returns-6
 unfolding extendBody
@@ -38,7 +44,13 @@ returns-6 c =
     let f = g .before in
     let e = f .before in
     c .complete5 .ensures
-    ∙ sym (rw (ne-eqb _ _ (e .if3 .left), ne-eqb _ _ (e .before .if1 .left), ne-eqb _ _ (f .if4 .left), ne-eqb _ _ (g .if5 .left), eq-eqb _ _ (c .before .if6 .taken)))
+    ∙ sym (rw (
+      ne-eqb _ _ (e .if3 .left),
+      ne-eqb _ _ (e .before .if1 .left),
+      ne-eqb _ _ (f .if4 .left),
+      ne-eqb _ _ (g .if5 .left),
+      eq-eqb _ _ (c .before .if6 .taken),
+    ))
 
 returns-7 : tie.Need-returns-7
 unfolding extendBody
@@ -47,7 +59,14 @@ returns-7 c =
     let g = h .before in
     let f = g .before in
     let e = f .before in
-    sym (rw (ne-eqb _ _ (e .if3 .left), ne-eqb _ _ (e .before .if1 .left), ne-eqb _ _ (f .if4 .left), ne-eqb _ _ (g .if5 .left), ne-eqb _ _ (h .if6 .left), eq-eqb _ _ (c .if7 .taken)))
+    sym (rw (
+      ne-eqb _ _ (e .if3 .left),
+      ne-eqb _ _ (e .before .if1 .left),
+      ne-eqb _ _ (f .if4 .left),
+      ne-eqb _ _ (g .if5 .left),
+      ne-eqb _ _ (h .if6 .left),
+      eq-eqb _ _ (c .if7 .taken),
+    ))
 
 returns-8 : tie.Need-returns-8
 unfolding extendBody
@@ -56,7 +75,14 @@ returns-8 c =
     let g = h .before in
     let f = g .before in
     let e = f .before in
-    sym (rw (ne-eqb _ _ (e .if3 .left), ne-eqb _ _ (e .before .if1 .left), ne-eqb _ _ (f .if4 .left), ne-eqb _ _ (g .if5 .left), ne-eqb _ _ (h .if6 .left), ne-eqb _ _ (c .if7 .left)))
+    sym (rw (
+      ne-eqb _ _ (e .if3 .left),
+      ne-eqb _ _ (e .before .if1 .left),
+      ne-eqb _ _ (f .if4 .left),
+      ne-eqb _ _ (g .if5 .left),
+      ne-eqb _ _ (h .if6 .left),
+      ne-eqb _ _ (c .if7 .left),
+    ))
 
 pub extend-body-spec : {M : Type 1} → statement M
 extend-body-spec = tie.close (tie.spec
