@@ -192,12 +192,9 @@ by-parsed : {X : Type 0} (x : Parsed) → ((m : Message) → x ≡ Heard m → X
 by-parsed (Heard m) f g = f m refl
 by-parsed Unheard f g = g refl
 
--- characters without a `*`, as a message is closed by its first
+-- of characters without a `*`, as the first `*` closes a message
 module _ (cs : List ℕ) (plain : Plain cs) where
-  abbrev closed-cs : List ℕ
-  closed-cs = cs ++ (star ∷ [])
-
-  pub position-is : parse cs ≡ Unheard → Impossible closed-cs (position cs)
+  pub position-is : parse cs ≡ Unheard → Impossible (cs ++ (star ∷ [])) (position cs)
   unfolding position isWrong
   position-is e = record {
     inside = omega (arith, accepted-most Start cs, length-append cs (star ∷ []));
@@ -211,25 +208,25 @@ module _ (cs : List ℕ) (plain : Plain cs) where
         let v = subst Possible (take-append-le (suc p) cs (star ∷ []) h) w in
         omega (arith, accepted-greatest Start cs (suc p) h (possible-right (take (suc p) cs) (plain-take (suc p) cs plain) v)))
         (λ t.
-        let all = take-all (suc p) closed-cs (omega (arith, ltb-false p (length cs) t, length-append cs (star ∷ []))) in
+        let all = take-all (suc p) (cs ++ (star ∷ [])) (omega (arith, ltb-false p (length cs) t, length-append cs (star ∷ []))) in
         unheard (sym e ∙ possible-heard cs plain (subst Possible all w) .1));
   }
     where
       p : ℕ
       p = accepted Start cs
 
-  well-formed : (m : Message) → parse cs ≡ Heard m → WellFormed closed-cs
+  well-formed : (m : Message) → parse cs ≡ Heard m → WellFormed (cs ++ (star ∷ []))
   well-formed m e = record { characters = cs; message = m; closed = refl; heard = e }
 
-  pub position-only : (p : ℕ) → Impossible closed-cs p → (parse cs ≡ Unheard) × (p ≡ position cs)
+  pub position-only : (p : ℕ) → Impossible (cs ++ (star ∷ [])) p → (parse cs ≡ Unheard) × (p ≡ position cs)
   position-only p i =
       by-parsed (parse cs)
-      (λ m e. absurd (well-formed-never closed-cs (well-formed m e) p i))
-      (λ e. (e, impossible-once closed-cs p (position cs) i (position-is e)))
+      (λ m e. absurd (well-formed-never (cs ++ (star ∷ [])) (well-formed m e) p i))
+      (λ e. (e, impossible-once (cs ++ (star ∷ [])) p (position cs) i (position-is e)))
 
-  pub well-formed-is : WellFormed closed-cs ↔ ((p : ℕ) → Impossible closed-cs p → ⊥)
+  pub well-formed-is : WellFormed (cs ++ (star ∷ [])) ↔ ((p : ℕ) → Impossible (cs ++ (star ∷ [])) p → ⊥)
   well-formed-is = (
-    well-formed-never closed-cs,
+    well-formed-never (cs ++ (star ∷ [])),
     λ f. by-parsed (parse cs) well-formed (λ e. absurd (f (position cs) (position-is e))),
   )
 

@@ -1,4 +1,4 @@
--- Where a closed message that is not well formed fails, and what that means of the messages that are.
+-- Where a closed message that is not well formed fails: by reading it, and by the well-formed messages alone.
 use mathlib.Core.Path.{_≡_}
 use mathlib.Core.Bool.{Bool, true, false, cond}
 use mathlib.Core.List.{List, [], _∷_, _++_}
@@ -28,11 +28,11 @@ accepted s [] = 0
 accepted s (c ∷ cs) = cond (isWrong (extend s c)) 0 (suc (accepted (extend s c) cs))
 
 -- document 02, ticket 4: "the position in it, from 0, of the first character that no well-formed message could have there after those
--- before it, the `*` counting as a character"; of the characters before the `*`, whose own place is behind them all
+-- before it, the `*` counting as a character". cs are the characters before the `*`, whose own place is `length cs`
 unfoldable pub position : List ℕ → ℕ
 position cs = accepted Start cs
 
--- ---- what the position is, by well-formed messages alone
+-- ---- the position by well-formed messages alone
 
 -- a message that is heard, and its `*`
 pub record WellFormed (xs : List ℕ) : Type 0 where
