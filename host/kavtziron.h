@@ -44,20 +44,45 @@ extern "C" {
 #define KAV_ROW 6     /* numbers of a row */
 #define KAV_ANSWER 15 /* numbers of an answer */
 #define KAV_REPLY 33  /* no reply is longer, in bytes */
+#define KAV_CAUSE 2   /* numbers of a cause */
 #define KAV_LINE 35   /* no line of the listing is longer, in bytes */
 #define KAV_SILENCE 256 /* the word for a silence longer than the timeout */
 
 /*
+ * Why a word drew 'N' or silence. Codes 1 to 6 go with 'N', 7 to 10 with silence. For a message that is
+ * heard, the first that holds of 7, 8, 1, 2, 3, 5, 6 is given; 9 where the word closed no message, 10 where
+ * the one it closed isn't well formed. 4 is kept free.
+ */
+#define KAV_CAUSE_NONE 0             /* the reply is 'A' or 'I' */
+#define KAV_CAUSE_IDENTIFIER 1       /* no such identifier */
+#define KAV_CAUSE_ACCESS 2           /* access forbids it */
+#define KAV_CAUSE_DECIMALS 3         /* wrong decimals, Type 3 */
+#define KAV_CAUSE_RANGE 5            /* out of range, Type 3 */
+#define KAV_CAUSE_LIMIT 6            /* at the limit, '+' and '-' */
+#define KAV_CAUSE_OTHER_CARD 7       /* not for this card */
+#define KAV_CAUSE_NO_OFFER 8         /* Type 4 without its offer */
+#define KAV_CAUSE_NOT_CLOSED 9       /* no message closed by this word */
+#define KAV_CAUSE_NOT_WELL_FORMED 10 /* the message closed isn't well formed, whatever its address */
+
+/*
  * Takes one word. Gives the count of bytes replied into out; 0 is silence.
  * The card and the values are changed in their place. out: at least 33 bytes, whatever the card and the
- * word. Refused with 1 (card), 2, 1 (offer and scan), 3, 4, 5, in this order.
+ * word. cause: at least two numbers. A served call writes the code into cause[0], and into cause[1] the
+ * position; what stands behind is left as it was. The position is that of the first character that no
+ * well-formed message could have there after those before it, counted from 0 at the letter, the '*'
+ * counting as a character: 1 to 9 with KAV_CAUSE_NOT_WELL_FORMED, 0 with every other code.
+ * On ']', a Type 2 or 3 answered 'N' has KAV_CAUSE_ACCESS at a card with a scan and
+ * KAV_CAUSE_IDENTIFIER at one without; a Type 4 has KAV_CAUSE_NO_OFFER.
+ * Refused with 1 (card), 2, 1 (offer and scan), 3, 4, 5, in this order; a cause shorter than two is number
+ * 5, behind all the others.
  */
 int64_t kav_step(int32_t *card, size_t card_length,
                  const int32_t *bench, size_t bench_length,
                  const int32_t *maker, size_t maker_length,
                  int32_t *values, size_t values_length,
                  uint16_t word,
-                 uint8_t *out, size_t out_length);
+                 uint8_t *out, size_t out_length,
+                 int32_t *cause, size_t cause_length);
 
 /*
  * Takes words until all are taken or the next word's reply no longer fits in out, which isn't a

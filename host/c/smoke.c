@@ -32,6 +32,14 @@ static void check_text(const char *what, const uint8_t *bytes, int64_t length, c
     }
 }
 
+static void check_cause(const char *what, const int32_t *cause, int32_t code, int32_t position) {
+    if (cause[0] != code || cause[1] != position) {
+        printf("FAILED cause of %s: %" PRId32 " at %" PRId32 ", not %" PRId32 " at %" PRId32 "\n", what,
+               cause[0], cause[1], code, position);
+        failed = 1;
+    }
+}
+
 static size_t words_of(const char *text, uint16_t *words) {
     size_t at = 0;
     for (; text[at]; at++) {
@@ -65,6 +73,7 @@ int main(void) {
     uint16_t normal[64];
     uint8_t out[64];
     uint64_t counts[2];
+    int32_t cause[KAV_CAUSE + 1] = {-77, -77, -77};
 
     values['M'] = 231;
     values['Z'] = 15;
@@ -88,32 +97,76 @@ int main(void) {
     int64_t replied = 0;
     for (size_t at = 0; at < length; at++) {
         replied = kav_step(card, KAV_CARD, bench, bench_length, maker, 0, values, KAV_VALUES,
-                           words[at], out, sizeof out);
+                           words[at], out, sizeof out, cause, 3);
         check("step", replied, at + 1 < length ? 0 : 10);
+        check_cause("step", cause, at + 1 < length ? KAV_CAUSE_NOT_CLOSED : KAV_CAUSE_NONE, 0);
+        check("the number behind the cause", cause[2], -77);
     }
     check_text("reply", out, replied, "L7m00251A*");
     check("value", values['m'], 25);
     check("step with a part of a sheet",
           kav_step(card, KAV_CARD, bench, bench_length - 1, maker, 0, values, KAV_VALUES,
-                   KAV_SILENCE, out, sizeof out), -2);
+                   KAV_SILENCE, out, sizeof out, cause, KAV_CAUSE), -2);
     check("step with 127 values",
           kav_step(card, KAV_CARD, bench, bench_length, maker, 0, values, KAV_VALUES - 1,
-                   KAV_SILENCE, out, sizeof out), -3);
+                   KAV_SILENCE, out, sizeof out, cause, KAV_CAUSE), -3);
     check("step with no word",
           kav_step(card, KAV_CARD, bench, bench_length, maker, 0, values, KAV_VALUES,
-                   257, out, sizeof out), -4);
+                   257, out, sizeof out, cause, KAV_CAUSE), -4);
     check("step with little room",
           kav_step(card, KAV_CARD, bench, bench_length, maker, 0, values, KAV_VALUES,
-                   KAV_SILENCE, out, KAV_REPLY - 1), -5);
+                   KAV_SILENCE, out, KAV_REPLY - 1, cause, KAV_CAUSE), -5);
+    check("step with a short cause",
+          kav_step(card, KAV_CARD, bench, bench_length, maker, 0, values, KAV_VALUES,
+                   KAV_SILENCE, out, sizeof out, cause, KAV_CAUSE - 1), -5);
+    check_cause("refused steps", cause, KAV_CAUSE_NONE, 0);
+
+    /* Why a message drew 'N' or silence, each at a card afresh, then one with a scan. */
+    const struct {
+        const char *sent;
+        int32_t code, position;
+    } causes[] = {
+        {"L7m?*", KAV_CAUSE_NONE, 0},
+        {"L7a?*", KAV_CAUSE_IDENTIFIER, 0},
+        {"L7]+*", KAV_CAUSE_IDENTIFIER, 0},
+        {"L7M+*", KAV_CAUSE_ACCESS, 0},
+        {"L7m#00230*", KAV_CAUSE_DECIMALS, 0},
+        {"L7m#10031*", KAV_CAUSE_RANGE, 0},
+        {"L7J-*", KAV_CAUSE_LIMIT, 0},
+        {"L8m?*", KAV_CAUSE_OTHER_CARD, 0},
+        {"L7]I*", KAV_CAUSE_NO_OFFER, 0},
+        {"L7m?", KAV_CAUSE_NOT_CLOSED, 0},
+        {"L0??*", KAV_CAUSE_NOT_WELL_FORMED, 2},
+        {"L8M!*", KAV_CAUSE_NOT_WELL_FORMED, 3},
+        {"L7m#00304*", KAV_CAUSE_NOT_WELL_FORMED, 8},
+    };
+    int32_t at_limit[KAV_VALUES];
+    memcpy(at_limit, values, sizeof values);
+    at_limit['J'] = -100;
+    for (size_t which = 0; which < sizeof causes / sizeof *causes; which++) {
+        int32_t fresh[KAV_CARD] = {'L', 7};
+        length = words_of(causes[which].sent, words);
+        for (size_t at = 0; at < length; at++) {
+            kav_step(fresh, KAV_CARD, bench, bench_length, maker, 0, at_limit, KAV_VALUES,
+                     words[at], out, sizeof out, cause, KAV_CAUSE);
+        }
+        check_cause(causes[which].sent, cause, causes[which].code, causes[which].position);
+    }
+    int32_t scanning[KAV_CARD] = {'L', 7, 4, 'L', '7', ']', '+'};
+    const int32_t four[] = {4, 'm', 'm', 'M', 'J'};
+    memcpy(scanning + 16, four, sizeof four);
+    kav_step(scanning, KAV_CARD, bench, bench_length, maker, 0, values, KAV_VALUES,
+             0xAA, out, sizeof out, cause, KAV_CAUSE);
+    check_cause("a scan's '+'", cause, KAV_CAUSE_ACCESS, 0);
 
     /* Numbers that are no offer are judged after the sheets. */
     card[13] = 2;
     check("step with a mark of 2",
           kav_step(card, KAV_CARD, bench, bench_length, maker, 0, values, KAV_VALUES,
-                   KAV_SILENCE, out, sizeof out), -1);
+                   KAV_SILENCE, out, sizeof out, cause, KAV_CAUSE), -1);
     check("step with a mark of 2 and a part of a sheet",
           kav_step(card, KAV_CARD, bench, bench_length - 1, maker, 0, values, KAV_VALUES,
-                   KAV_SILENCE, out, sizeof out), -2);
+                   KAV_SILENCE, out, sizeof out, cause, KAV_CAUSE), -2);
     card[13] = 0;
 
     /* A scan of five and one of four; then ']' has a row of its own. */
@@ -130,11 +183,11 @@ int main(void) {
     check_text("its reply", out, (int64_t)counts[1], "L7]2000251023110025100001A*");
     check("step with a row for the scan",
           kav_step(card, KAV_CARD, bench, bench_length, own, KAV_ROW, values, KAV_VALUES,
-                   KAV_SILENCE, out, sizeof out), -1);
+                   KAV_SILENCE, out, sizeof out, cause, KAV_CAUSE), -1);
     card[16] = 3;
     check("step with a scan of three",
           kav_step(card, KAV_CARD, bench, bench_length, maker, 0, values, KAV_VALUES,
-                   KAV_SILENCE, out, sizeof out), -1);
+                   KAV_SILENCE, out, sizeof out, cause, KAV_CAUSE), -1);
     card[16] = 0;
 
     length = words_of("xL07M?*L7J#00006*L7", words);

@@ -19,6 +19,8 @@ pub mod raw {
             word: u16,
             out: *mut u8,
             out_length: usize,
+            cause: *mut i32,
+            cause_length: usize,
         ) -> i64;
 
         pub fn kav_run(
@@ -86,7 +88,8 @@ pub mod raw {
 // In every wrapper: the pointers and lengths are those of slices that are borrowed for the call,
 // the mutable ones apart from all others, and the function keeps none of them.
 
-/// One word. Minus the refusal's number, or the count of bytes replied; 0 is silence.
+/// One word. Minus the refusal's number, or the count of bytes replied, 0 being silence, with the cause's code
+/// in `cause[0]` and its position in `cause[1]`.
 #[inline]
 pub fn step(
     card: &mut [i32],
@@ -95,6 +98,7 @@ pub fn step(
     values: &mut [i32],
     word: u16,
     out: &mut [u8],
+    cause: &mut [i32],
 ) -> i64 {
     // SAFETY: as above.
     unsafe {
@@ -110,6 +114,8 @@ pub fn step(
             word,
             out.as_mut_ptr(),
             out.len(),
+            cause.as_mut_ptr(),
+            cause.len(),
         )
     }
 }

@@ -1,6 +1,6 @@
 -- The calls that take a card as a row of twenty-two numbers: what each gives back, and all that it leaves, for every input.
 use mathlib.Core.Bool.{cond}
-use mathlib.Core.List.{List}
+use mathlib.Core.List.{List, [], _∷_}
 use Prim.Native.Nat.{ℕ}
 use lib.Dec.{ltb}
 use lib.IntN.{ℤ, pos}
@@ -10,7 +10,8 @@ use Rattle.refusal.specs.Check.{first}
 use Rattle.refusal.specs.declared.Refusal.the-variants.{UnsoundCard, RoomTooShort}
 use Rattle.card.specs.declared.Card.{Card}
 use Rattle.card.specs.Refusals.{cardChecks}
-use Rattle.card.specs.Calls.{After, stepCall, Took, runCall}
+use Rattle.act.specs.Cause.{Why}
+use Rattle.card.specs.Calls.{After, WordAnswer, bytesOf, stepCall, Took, runCall}
 use Rattle.row.specs.Row.{isRow, cardOf, storedIn}
 use Rattle.abi.specs.Result.{minusNumber, resultOf}
 
@@ -19,25 +20,43 @@ abbrev pub rowAfter : {A : Type 0} → Outcome A → Card → List ℤ → List 
 rowAfter (refused n) c row = row
 rowAfter (gave x) c row = storedIn c row
 
+-- a slice that is too short for what a host is given beside the result is number 5, behind all other numbers of the call
+abbrev pub tooShort : Outcome (Unit {0}) → ℤ
+tooShort (refused n) = minusNumber n
+tooShort (gave x) = minusNumber (numberOf RoomTooShort)
+
 -- ---- one word
 
--- the result, and the row, the values and the buffer afterwards
+-- the result, and the row, the values, the buffer and the cause afterwards
 pub record OneWord : Type 0 where
   pub result : ℤ
   pub row : List ℤ
   pub values : List ℤ
   pub buffer : List ℕ
+  pub cause : List ℤ
 
-abbrev pub oneWord : ℤ → List ℤ → List ℤ → List ℕ → OneWord
-oneWord z row values out = record { result = z; row = row; values = values; buffer = out }
+abbrev pub oneWord : ℤ → List ℤ → List ℤ → List ℕ → List ℤ → OneWord
+oneWord z row values out cause = record { result = z; row = row; values = values; buffer = out; cause = cause }
+
+-- a cause's code and position, in the first two places
+abbrev pub causeIn : Why → List ℤ → List ℤ
+causeIn y cause = set (set cause 0 (pos (y .code))) 1 (pos (y .position))
+
+abbrev pub causeAfter : Outcome WordAnswer → List ℤ → List ℤ
+causeAfter (refused n) cause = cause
+causeAfter (gave s) cause = causeIn (s .cause) cause
 
 -- what the card's call leaves, on the row
-abbrev pub stepOn : List ℤ → After ℕ → OneWord
-stepOn row a = oneWord (resultOf (a .outcome)) (rowAfter (a .outcome) (a .card) row) (a .values) (a .buffer)
+abbrev pub stepOn : List ℤ → List ℤ → After WordAnswer → OneWord
+stepOn row cause a =
+    oneWord (resultOf (bytesOf (a .outcome))) (rowAfter (a .outcome) (a .card) row) (a .values) (a .buffer) (causeAfter (a .outcome) cause)
 
-unfoldable pub kavStep : List ℤ → List ℤ → List ℤ → List ℤ → ℕ → List ℕ → OneWord
-kavStep row bench maker values w out =
-    cond (isRow row) (stepOn row (stepCall (cardOf row) bench maker values w out)) (oneWord (minusNumber (numberOf UnsoundCard)) row values out)
+unfoldable pub kavStep : List ℤ → List ℤ → List ℤ → List ℤ → ℕ → List ℕ → List ℤ → OneWord
+kavStep row bench maker values w out cause =
+    cond (isRow row)
+    (cond (ltb (length cause) 2) (oneWord (tooShort (first (cardChecks (cardOf row) bench maker values (w ∷ [])))) row values out cause)
+    (stepOn row cause (stepCall (cardOf row) bench maker values w out)))
+    (oneWord (minusNumber (numberOf UnsoundCard)) row values out cause)
 
 -- ---- a run
 
@@ -66,14 +85,9 @@ abbrev pub runOn : List ℤ → List ℕ → After Took → ManyWords
 runOn row counts a =
     manyWords (runResult (a .outcome)) (rowAfter (a .outcome) (a .card) row) (a .values) (a .buffer) (countsAfter (a .outcome) counts)
 
--- counts shorter than two are number 5, behind all other numbers of a run
-abbrev pub shortRun : Outcome (Unit {0}) → ℤ
-shortRun (refused n) = minusNumber n
-shortRun (gave x) = minusNumber (numberOf RoomTooShort)
-
 unfoldable pub kavRun : List ℤ → List ℤ → List ℤ → List ℤ → List ℕ → List ℕ → List ℕ → ManyWords
 kavRun row bench maker values ws out counts =
     cond (isRow row)
-    (cond (ltb (length counts) 2) (manyWords (shortRun (first (cardChecks (cardOf row) bench maker values ws))) row values out counts)
+    (cond (ltb (length counts) 2) (manyWords (tooShort (first (cardChecks (cardOf row) bench maker values ws))) row values out counts)
     (runOn row counts (runCall (cardOf row) bench maker values ws out)))
     (manyWords (minusNumber (numberOf UnsoundCard)) row values out counts)

@@ -13,11 +13,13 @@ ghost use Rattle.message.specs.Prefix.{message};
 ghost use Rattle.sheet.specs.Lookup.{shown};
 ghost use Rattle.reply.specs.Reply.{markOf};
 ghost use Rattle.reply.specs.Read.{readCall};
+ghost use Rattle.act.specs.Cause.{whyOf};
 ghost use Rattle.card.specs.Refusals.{cardChecks};
 ghost use Rattle.card.specs.Calls.{stepAfter, runAfter};
 ghost use Rattle.abi.specs.Result.{minusNumber, countResult, resultOf, filled, given, setOf, bodyOf, asked, writeAsked, lineAsked};
 ghost use Rattle.abi.specs.Rows.{pairs, answerRow, readInto, lookupInto};
-ghost use Rattle.abi.specs.Calls.{oneWord, stepOn, kavStep, manyWords, runOn, shortRun, kavRun};
+ghost use Rattle.abi.specs.Calls.{tooShort, oneWord, causeIn, stepOn, kavStep, manyWords, runOn, kavRun};
+use act::causes::Cause;
 use card::Card;
 use card::Ran;
 use card::RunAnswer;
@@ -272,21 +274,51 @@ pub extern "C" fn kav_lookup<'a>(
     6
 }
 
-// A word's answer as a result; the card is stored back when the word is served.
-fn stepped(step: Stepped, row: &mut [i32]) -> i64
-    ensures { λ r. ⌜ ((values : List ℤ) (out : List ℕ) → oneWord r (now (row .exit)) values out ≡ stepOn (now (row .entry)) (stepAfter step values out)) ⌝ }
+// A call with no room for what it gives beside its result: the numbers before 5, then 5.
+fn too_short<'a>(
+    card: Card,
+    bench: &'a [i32],
+    maker: &'a [i32],
+    values: &[i32],
+    words: &[u16],
+) -> i64
+    ensures { λ r. ⌜ r ≡ tooShort (first (cardChecks card (now (bench .entry)) (now (maker .entry)) (now (values .entry)) (now (words .entry)))) ⌝ }
+{
+    match card::check(card, bench, maker, values, words) {
+        Verdict::Refused(refusal) => minus_number(refusal),
+        Verdict::Passed => minus_number(Refusal::RoomTooShort),
+    }
+}
+
+// A cause's code and position, in the first two places.
+fn put_cause(given: Cause, cause: &mut [i32])
+    requires { ⌜ 2 ≤ length (now cause) ⌝ }
+    ensures { λ _. ⌜ now (cause .exit) ≡ causeIn (whyOf given) (now (cause .entry)) ⌝ }
+{
+    cause[0] = act::causes::cause_code(given) as i32;
+    cause[1] = act::causes::cause_position(given) as i32;
+}
+
+// A word's answer as a result; when the word is served, the card is stored back, and the cause is given.
+fn stepped(step: Stepped, row: &mut [i32], cause: &mut [i32]) -> i64
+    requires { ⌜ 2 ≤ length (now cause) ⌝ }
+    ensures { λ r. ⌜ ((values : List ℤ) (out : List ℕ) → oneWord r (now (row .exit)) values out (now (cause .exit)) ≡ stepOn (now (row .entry)) (now (cause .entry)) (stepAfter step values out)) ⌝ }
 {
     let answer = step.answer;
     match answer {
         StepAnswer::Refused(refusal) => minus_number(refusal),
-        StepAnswer::Replied(n) => {
+        StepAnswer::Replied {
+            bytes,
+            cause: given,
+        } => {
             row::store(step.card, row);
-            count_result(n)
+            put_cause(given, cause);
+            count_result(bytes)
         }
     }
 }
 
-// One word: the count of bytes replied, 0 for silence.
+// One word: the count of bytes replied, 0 for silence, with the cause's code and position.
 #[no_mangle]
 pub extern "C" fn kav_step<'a>(
     card: &mut [i32],
@@ -295,15 +327,22 @@ pub extern "C" fn kav_step<'a>(
     values: &mut [i32],
     word: u16,
     out: &mut [u8],
+    cause: &mut [i32],
 ) -> i64
-    ensures { λ r. ⌜ oneWord r (now (card .exit)) (now (values .exit)) (now (out .exit)) ≡ kavStep (now (card .entry)) (now (bench .entry)) (now (maker .entry)) (now (values .entry)) word (now (out .entry)) ⌝ }
+    ensures { λ r. ⌜ oneWord r (now (card .exit)) (now (values .exit)) (now (out .exit)) (now (cause .exit)) ≡ kavStep (now (card .entry)) (now (bench .entry)) (now (maker .entry)) (now (values .entry)) word (now (out .entry)) (now (cause .entry)) ⌝ }
 {
     if !row::is_row(card) {
         return minus_number(Refusal::UnsoundCard);
     }
+    let held = row::card_of(card);
+    if cause.len() < 2 {
+        let words = [word];
+        return too_short(held, bench, maker, values, &words);
+    }
     stepped(
-        card::step(row::card_of(card), bench, maker, values, word, out),
+        card::step(held, bench, maker, values, word, out),
         card,
+        cause,
     )
 }
 
@@ -342,27 +381,11 @@ pub extern "C" fn kav_run<'a>(
     }
     let held = row::card_of(card);
     if counts.len() < 2 {
-        return short_run(held, bench, maker, values, words);
+        return too_short(held, bench, maker, values, words);
     }
     ran(
         card::run(held, bench, maker, values, words, out),
         card,
         counts,
     )
-}
-
-// A run with no room for its counts: the numbers before 5, then 5.
-fn short_run<'a>(
-    card: Card,
-    bench: &'a [i32],
-    maker: &'a [i32],
-    values: &[i32],
-    words: &[u16],
-) -> i64
-    ensures { λ r. ⌜ r ≡ shortRun (first (cardChecks card (now (bench .entry)) (now (maker .entry)) (now (values .entry)) (now (words .entry)))) ⌝ }
-{
-    match card::check(card, bench, maker, values, words) {
-        Verdict::Refused(refusal) => minus_number(refusal),
-        Verdict::Passed => minus_number(Refusal::RoomTooShort),
-    }
 }

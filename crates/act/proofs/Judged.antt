@@ -1,6 +1,6 @@
 -- The list of tests comes to what each type of message tests: what is accepted has no cause, and what has one is turned down as its cause
 -- says. Assumes nothing.
-use mathlib.Core.Path.{_≡_, refl, sym, ap₂, _∙_}
+use mathlib.Core.Path.{_≡_, refl, sym, _∙_}
 use mathlib.Core.Bool.{true, false, cond}
 use mathlib.Core.List.{List}
 use Prim.Native.Nat.{ℕ}
@@ -23,10 +23,10 @@ use Rattle.act.specs.declared.Setup.{Setup}
 use Rattle.act.specs.declared.Offer.{Offer}
 use Rattle.act.specs.declared.Offer.the-variants.{Nothing, Held}
 use Rattle.act.specs.declared.Effect.{Effect}
-use Rattle.act.specs.declared.Standing.{Standing}
-use Rattle.act.specs.Cause.{rowOrZeros, isOffered, onEntry, onBracket, isFor, causes}
-use Rattle.act.specs.Act.{noEffect, noNumber, says, shownBy, granted, hasScan, valueOf, scanOf, turnedDown, onScan, onRow, respond, act}
-use Rattle.act.specs.Inner.{declines, query, moves, up, down, setTo, store, serve, declinesScan, serveScan, addressed}
+use Rattle.act.specs.declared.causes.Standing.{Standing}
+use Rattle.act.specs.Cause.{rowOrZeros, isOffered, standing, onEntry, onBracket, isFor, causes}
+use Rattle.act.specs.Act.{noEffect, noNumber, says, shownBy, granted, hasScan, valueOf, scanOf, turnedDown, respond, act}
+use Rattle.act.specs.Inner.{declines, query, moves, up, down, setTo, store, serve, declinesScan, serveScan, addressed, onScan, onRow}
 
 module _ (c : Setup) (o : Offer) (m : Message) where
   -- what the tests come to, where `N` shows x and y is done otherwise
@@ -40,26 +40,26 @@ module _ (c : Setup) (o : Offer) (m : Message) where
     on e b = judged (onEntry e o v (m .identifier) b) (shownBy e v) (granted m (rowOrZeros e) o v b)
 
     query-is : (e : Entry) → on e body.Query ≡ query m e v
-    unfolding first causes onEntry turnedDown granted query declines
+    unfolding first causes standing turnedDown granted query declines
     query-is (Found r) = by-test (isReadable r) (λ t. rw (its, t)) (λ t. rw (its, t))
     query-is Missing = rw its
 
     up-is : (e : Entry) → on e body.Up ≡ up m e v
-    unfolding first causes onEntry turnedDown granted up moves declines
+    unfolding first causes standing turnedDown granted up moves declines
     up-is (Found r) =
         by-test (isReadWrite r)
         (λ t. by-test (inRange (r .least) (raised v (r .step)) (r .greatest)) (λ u. rw (its, t, u)) (λ u. rw (its, t, u))) (λ t. rw (its, t))
     up-is Missing = rw its
 
     down-is : (e : Entry) → on e body.Down ≡ down m e v
-    unfolding first causes onEntry turnedDown granted down moves declines
+    unfolding first causes standing turnedDown granted down moves declines
     down-is (Found r) =
         by-test (isReadWrite r)
         (λ t. by-test (inRange (r .least) (lowered v (r .step)) (r .greatest)) (λ u. rw (its, t, u)) (λ u. rw (its, t, u))) (λ t. rw (its, t))
     down-is Missing = rw its
 
     set-is : (e : Entry) (x : _) → on e (body.Set x) ≡ setTo m e v x
-    unfolding first causes onEntry turnedDown granted setTo declines
+    unfolding first causes standing turnedDown granted setTo declines
     set-is (Found r) x =
         by-test (isWritable r)
         (λ t.
@@ -70,12 +70,12 @@ module _ (c : Setup) (o : Offer) (m : Message) where
     set-is Missing x = rw its
 
     store-is : (e : Entry) (p : Offer) → o ≡ p → on e body.Store ≡ store m e p
-    unfolding first causes onEntry isOffered turnedDown granted store
+    unfolding first causes standing isOffered turnedDown granted store
     store-is e (Held i z) q = rw q (by-test (eqb i (m .identifier)) (λ t. rw (its, t)) (λ t. rw (its, t)))
     store-is e Nothing q = rw q (rw its)
 
     serve-is : (e : Entry) (b : Body) → on e b ≡ serve m e o v b
-    unfolding first causes onEntry granted serve
+    unfolding first causes standing granted serve
     serve-is e body.Status = rw its
     serve-is e body.Query = query-is e
     serve-is e body.Up = up-is e
@@ -113,12 +113,24 @@ module _ (c : Setup) (o : Offer) (m : Message) where
     unfolding onScan addressed
     bracket-is = by-test (isFor c m) (λ t. scan-is t (scanOf c (valueOf e v)) (m .body) ∙ sym (rw t)) (λ t. other-is _ _ _ t ∙ sym (rw t))
 
--- what the card does, by whether the message is on `]`
+    -- what the card does, by whether the message is on `]`
+    pub scan-responds : eqb (m .identifier) scanIdentifier ≡ true → onScan c o e v m ≡ respond c o e v m
+    unfolding respond onScan
+    scan-responds q = sym (rw q)
+
+    pub row-responds : eqb (m .identifier) scanIdentifier ≡ false → onRow c o e v m ≡ respond c o e v m
+    unfolding respond onRow
+    row-responds q = sym (rw q)
+
 module _ (bench maker : List ℤ) (c : Setup) (o : Offer) (values : List ℤ) (m : Message) where
+  abbrev valueAt : ℕ → ℤ
+  valueAt i = getD values i (pos 0)
+
   pub act-is : act bench maker c o values m
-      ≡ cond (eqb (m .identifier) scanIdentifier)
-      (addressed c o m (serveScan c m (scanOf c (valueOf (entryIn bench maker) (λ (i : ℕ). getD values i (pos 0)))) (m .body)))
-      (addressed c o m (serve m (entryIn bench maker (m .identifier)) o (getD values (m .identifier) (pos 0)) (m .body)))
-  unfolding act respond
+      ≡ cond (eqb (m .identifier) scanIdentifier) (addressed c o m (serveScan c m (scanOf c (valueOf (entryIn bench maker) valueAt)) (m .body)))
+      (addressed c o m (serve m (entryIn bench maker (m .identifier)) o (valueAt (m .identifier)) (m .body)))
+  unfolding act
   act-is =
-      ap₂ (cond (eqb (m .identifier) scanIdentifier)) (bracket-is c o m (entryIn bench maker) (λ (i : ℕ). getD values i (pos 0))) (row-is c o m (entryIn bench maker) (λ (i : ℕ). getD values i (pos 0)))
+      by-test (eqb (m .identifier) scanIdentifier)
+      (λ t. sym (scan-responds c o m (entryIn bench maker) valueAt t) ∙ bracket-is c o m (entryIn bench maker) valueAt ∙ sym (rw t))
+      (λ t. sym (row-responds c o m (entryIn bench maker) valueAt t) ∙ row-is c o m (entryIn bench maker) valueAt ∙ sym (rw t))

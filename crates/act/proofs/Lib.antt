@@ -1,3 +1,4 @@
 pub mod Judged
 pub mod OnOffer
 pub mod Effects
+pub mod Fits

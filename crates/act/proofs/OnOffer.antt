@@ -32,7 +32,7 @@ use Rattle.act.specs.declared.Offer.the-variants.{Nothing, Held}
 use Rattle.act.specs.declared.Said.the-variants.{Reply}
 use Rattle.act.specs.declared.Effect.{Effect}
 use Rattle.act.specs.Cause.{rowOrZeros, isFor}
-use Rattle.act.specs.Act.{noEffect, answerTo, noNumber, says, accepts, shownBy, offers, named, namesFrom, valueOf, scanOf, ours, onScan, onRow, respond, act}
+use Rattle.act.specs.Act.{noEffect, answerTo, noNumber, says, accepts, shownBy, offers, named, namesFrom, valueOf, scanOf, ours, act}
 use Rattle.act.proofs.Judged.{act-is}
 use Rattle.act.specs.Inner.{declines, query, moves, up, down, setTo, store, serve, declinesScan, serveScan, addressed}
 
@@ -193,16 +193,6 @@ module _ (c : Setup) where
       by-test (isFor c m)
       (λ t. ap (ours c) (ours-own m ms t) ∙ ours-own m (ours c ms) t ∙ ap (λ (l : List Message). m ∷ l) (ours-ours ms) ∙ sym (ours-own m ms t))
       (λ t. ap (ours c) (ours-other m ms t) ∙ ours-ours ms ∙ sym (ours-other m ms t))
-
--- what the card does, by whether the message is on `]`
-module _ (c : Setup) (o : Offer) (e : ℕ → Entry) (v : ℕ → ℤ) (m : Message) where
-  pub scan-responds : eqb (m .identifier) scanIdentifier ≡ true → onScan c o e v m ≡ respond c o e v m
-  unfolding respond
-  scan-responds q = sym (rw q)
-
-  pub row-responds : eqb (m .identifier) scanIdentifier ≡ false → onRow c o e v m ≡ respond c o e v m
-  unfolding respond
-  row-responds q = sym (rw q)
 
 module _ (bench maker : List ℤ) (c : Setup) (o : Offer) (values : List ℤ) (m : Message) (its : isFor c m ≡ true) where
   abbrev pub answered : Effect

@@ -32,8 +32,9 @@ use Rattle.act.specs.declared.Said.the-variants.{Silence, Reply}
 use Rattle.act.specs.declared.Store.{Store}
 use Rattle.act.specs.declared.Store.the-variants.{Keep, Put}
 use Rattle.act.specs.declared.Effect.{Effect}
-use Rattle.act.specs.declared.Cause.the-variants.{NotForThisCard, NoOffer}
-use Rattle.act.specs.Cause.{codeOf, rowOrZeros, onEntry, onBracket, isFor, causes}
+use Rattle.act.specs.declared.causes.Cause.the-variants.{NotForThisCard, NoOffer}
+use Rattle.act.specs.declared.causes.Standing.{Standing}
+use Rattle.act.specs.Cause.{causeCode, rowOrZeros, onEntry, onBracket, isFor, causes}
 
 -- "no answer, no effect": silence, the offer as it was, nothing stored
 abbrev pub noEffect : Offer → Effect
@@ -115,33 +116,30 @@ scanOf c x =
 
 -- ---- any message
 
--- the tests of a message on `]`, by the card's setup alone
-abbrev pub scanCauses : Setup → Message → List Check
-scanCauses c m = causes c m (onBracket (hasScan c) (m .body))
+-- how a message stands with a card: on `]` by the card's setup alone, on any other identifier by its entry. e gives the entry of each
+-- identifier, and v the value stored at its place.
+abbrev pub standingWith : Setup → Offer → (ℕ → Entry) → (ℕ → ℤ) → Message → Standing
+standingWith c o e v m =
+    cond (eqb (m .identifier) scanIdentifier) (onBracket (hasScan c) (m .body)) (onEntry (e (m .identifier)) o (v (m .identifier)) (m .identifier) (m .body))
 
--- and on any other identifier
-abbrev pub rowCauses : Setup → Offer → (ℕ → Entry) → (ℕ → ℤ) → Message → List Check
-rowCauses c o e v m = causes c m (onEntry (e (m .identifier)) o (v (m .identifier)) (m .identifier) (m .body))
+-- its tests
+abbrev pub causesWith : Setup → Offer → (ℕ → Entry) → (ℕ → ℤ) → Message → List Check
+causesWith c o e v m = causes c m (standingWith c o e v m)
 
--- what a cause leads to. For another card: "the real card takes no notice of traffic for another letter or address"; a Type 4 without its
--- offer: silence, offer gone; any other: `N`, offer gone
+-- what a cause leads to, where `N` shows x. For another card: "the real card takes no notice of traffic for another letter or address"; a
+-- Type 4 without its offer: silence, offer gone; any other: `N`, offer gone
 unfoldable pub turnedDown : Offer → Message → Content → ℕ → Effect
-turnedDown o m x n = cond (eqb n (codeOf NotForThisCard)) (noEffect o) (cond (eqb n (codeOf NoOffer)) silent (says m Declined x))
+turnedDown o m x n = cond (eqb n (causeCode NotForThisCard)) (noEffect o) (cond (eqb n (causeCode NoOffer)) silent (says m Declined x))
 
--- a message on `]`: it is accepted exactly when it has no cause, and is then a Type 2 `?`, which "answers .. five five-digit values and `A*`".
--- `N` has `00000` there. e gives the entry of each identifier, and v the value stored at its place.
-unfoldable pub onScan : Setup → Offer → (ℕ → Entry) → (ℕ → ℤ) → Message → Effect
-onScan c o e v m = decided (first (scanCauses c m)) (turnedDown o m noNumber) (says m Accepted (scanOf c (valueOf e v)))
-
--- on any other identifier: it is accepted exactly when it has no cause
-unfoldable pub onRow : Setup → Offer → (ℕ → Entry) → (ℕ → ℤ) → Message → Effect
-onRow c o e v m =
+-- a message is accepted exactly when it has no cause. On `]` it is then a Type 2 `?`, which "answers .. five five-digit values and `A*`", and
+-- `N` has `00000` there
+unfoldable pub respond : Setup → Offer → (ℕ → Entry) → (ℕ → ℤ) → Message → Effect
+respond c o e v m =
     let x : Entry = e (m .identifier) in
     let z : ℤ = v (m .identifier) in
-    decided (first (rowCauses c o e v m)) (turnedDown o m (shownBy x z)) (granted m (rowOrZeros x) o z (m .body))
-
-unfoldable pub respond : Setup → Offer → (ℕ → Entry) → (ℕ → ℤ) → Message → Effect
-respond c o e v m = cond (eqb (m .identifier) scanIdentifier) (onScan c o e v m) (onRow c o e v m)
+    let onIt : Bool = eqb (m .identifier) scanIdentifier in
+    decided (first (causesWith c o e v m)) (turnedDown o m (cond onIt noNumber (shownBy x z)))
+    (cond onIt (says m Accepted (scanOf c (valueOf e v))) (granted m (rowOrZeros x) o z (m .body)))
 
 -- under these sheets and values
 unfoldable pub act : List ℤ → List ℤ → Setup → Offer → List ℤ → Message → Effect
@@ -149,8 +147,7 @@ act bench maker c o values m = respond c o (entryIn bench maker) (λ (i : ℕ). 
 
 -- and its tests
 unfoldable pub causesIn : List ℤ → List ℤ → Setup → Offer → List ℤ → Message → List Check
-causesIn bench maker c o values m =
-    cond (eqb (m .identifier) scanIdentifier) (scanCauses c m) (rowCauses c o (entryIn bench maker) (λ (i : ℕ). getD values i (pos 0)) m)
+causesIn bench maker c o values m = causesWith c o (entryIn bench maker) (λ (i : ℕ). getD values i (pos 0)) m
 
 -- ---- several messages
 

@@ -1,6 +1,6 @@
 -- Why a card doesn't accept a message: one list of tests, in the paper's order. What it accepts is what none of them turns down.
 -- Document 02, ticket 4.
-use mathlib.Core.Bool.{Bool, true, false, not, _&&_}
+use mathlib.Core.Bool.{Bool, true, false, not, _&&_, _||_}
 use mathlib.Core.List.{List, [], _∷_}
 use Prim.Native.Nat.{ℕ}
 use lib.Dec.{eqb}
@@ -18,9 +18,9 @@ use Rattle.sheet.specs.Values.{isReadable, isWritable, isReadWrite}
 use Rattle.act.specs.declared.Setup.{Setup}
 use Rattle.act.specs.declared.Offer.{Offer}
 use Rattle.act.specs.declared.Offer.the-variants.{Nothing, Held}
-use Rattle.act.specs.declared.Standing.{Standing}
-use Rattle.act.specs.declared.Cause.{Cause}
-use Rattle.act.specs.declared.Cause.the-variants.{None, NoSuchIdentifier, Access, WrongDecimals, OutOfRange, AtLimit, NotForThisCard, NoOffer, NoMessageClosed, NotWellFormed}
+use Rattle.act.specs.declared.causes.Standing.{Standing}
+use Rattle.act.specs.declared.causes.Cause.{Cause}
+use Rattle.act.specs.declared.causes.Cause.the-variants.{None, NoSuchIdentifier, Access, WrongDecimals, OutOfRange, AtLimit, NotForThisCard, NoOffer, NoMessageClosed, NotWellFormed}
 
 -- ---- the causes by their codes
 
@@ -45,16 +45,17 @@ whyOf NoOffer = why 8 0
 whyOf NoMessageClosed = why 9 0
 whyOf (NotWellFormed p) = why 10 p
 
-abbrev pub codeOf : Cause → ℕ
-codeOf x = whyOf x .code
+abbrev pub causeCode : Cause → ℕ
+causeCode x = whyOf x .code
 
 -- ---- the tests of a message
 
--- how a message stands with the card; each is true where its test is passed
+-- how a message stands with the card; each is true where its test is passed, or its type doesn't make it
 abbrev pub stands : Bool → Bool → Bool → Bool → Bool → Bool → Standing
-stands a b c d e f = record { offered = a; exists = b; allowed = c; decimals = d; number = e; step = f }
+stands a b c d e f =
+    record { offered = a; exists = b; allowed = c; matching = d; within = e; reachable = f }
 
--- the row of an entry; where there is none, one of zeros, which no test reaches
+-- the row of an entry; where there is none, one of zeros. No test of it decides then: that there is none comes before.
 abbrev pub rowOrZeros : Entry → Row
 rowOrZeros (Found r) = r
 rowOrZeros Missing = record { access = 0; decimals = 0; step = pos 0; least = pos 0; greatest = pos 0 }
@@ -68,19 +69,21 @@ unfoldable pub isOffered : Offer → ℕ → Bool
 isOffered (Held j z) i = eqb j i
 isOffered Nothing i = false
 
--- a message with the identifier i, its entry e in the sheets and its value v. Type 2 `?`: "if the row exists and isn't write only"; `+`, `-`:
--- "if the row is read and write and the result is in range"; Type 3: "if the row exists, isn't read only, the decimals equal the row's, and
--- the number is in range"; Type 4: "if the offer is for this identifier"
-unfoldable pub onEntry : Entry → Offer → ℤ → ℕ → Body → Standing
-onEntry e o v i body.Status = stands true true true true true true
-onEntry e o v i body.Query = stands true (isFound e) (isReadable (rowOrZeros e)) true true true
-onEntry e o v i body.Up =
-    stands true (isFound e) (isReadWrite (rowOrZeros e)) true true (inRange (rowOrZeros e .least) (raised v (rowOrZeros e .step)) (rowOrZeros e .greatest))
-onEntry e o v i body.Down =
-    stands true (isFound e) (isReadWrite (rowOrZeros e)) true true (inRange (rowOrZeros e .least) (lowered v (rowOrZeros e .step)) (rowOrZeros e .greatest))
-onEntry e o v i (body.Set x) =
-    stands true (isFound e) (isWritable (rowOrZeros e)) (eqb (x .decimals) (rowOrZeros e .decimals)) (inRange (rowOrZeros e .least) (x .number) (rowOrZeros e .greatest)) true
-onEntry e o v i body.Store = stands (isOffered o i) true true true true true
+-- a message with the identifier i, where the row r is there or not, and the value is v. Type 2 `?`: "if the row exists and isn't write only";
+-- `+`, `-`: "if the row is read and write and the result is in range"; Type 3: "if the row exists, isn't read only, the decimals equal the row's,
+-- and the number is in range"; Type 4: "if the offer is for this identifier"
+unfoldable pub standing : Bool → Row → Offer → ℤ → ℕ → Body → Standing
+standing there r o v i body.Status = stands true true true true true true
+standing there r o v i body.Query = stands true there (isReadable r) true true true
+standing there r o v i body.Up = stands true there (isReadWrite r) true true (inRange (r .least) (raised v (r .step)) (r .greatest))
+standing there r o v i body.Down = stands true there (isReadWrite r) true true (inRange (r .least) (lowered v (r .step)) (r .greatest))
+standing there r o v i (body.Set x) =
+    stands true there (isWritable r) (eqb (x .decimals) (r .decimals)) (inRange (r .least) (x .number) (r .greatest)) true
+standing there r o v i body.Store = stands (isOffered o i) true true true true true
+
+-- by its entry in the sheets
+abbrev pub onEntry : Entry → Offer → ℤ → ℕ → Body → Standing
+onEntry e o v i b = standing (isFound e) (rowOrZeros e) o v i b
 
 -- a message on `]`, where the card names some identifiers for its scan or none: "For `]` the cause is access, or no such identifier on a card
 -- without a scan"; a Type 4 never has its offer there
@@ -98,7 +101,7 @@ isFor c m = eqb (m .letter) (c .letter) && eqb (m .address) (c .address)
 
 -- one line of the list: a test, and the cause where it is not passed
 abbrev pub unless : Bool → Cause → Check
-unless b x = record { holds = not b; number = codeOf x }
+unless b x = record { holds = not b; number = causeCode x }
 
 -- "no such identifier, access forbids it, wrong decimals, out of range (Type 3), or at the limit on a step. They are tested in that order";
 -- silences "in this order: not for this card, Type 4 without its offer"
@@ -108,12 +111,27 @@ causes c m s =
     ∷ unless (s .offered) NoOffer
     ∷ unless (s .exists) NoSuchIdentifier
     ∷ unless (s .allowed) Access
-    ∷ unless (s .decimals) WrongDecimals
-    ∷ unless (s .number) OutOfRange
-    ∷ unless (s .step) AtLimit
+    ∷ unless (s .matching) WrongDecimals
+    ∷ unless (s .within) OutOfRange
+    ∷ unless (s .reachable) AtLimit
     ∷ []
 
 -- the cause that the first test gives
 abbrev pub because : Outcome (Unit {0}) → Why
 because (refused n) = why n 0
 because (gave x) = whyOf None
+
+-- ---- two kinds of causes, for the claims; no call uses them
+
+-- "no such identifier, access forbids it, wrong decimals, out of range (Type 3), or at the limit on a step"
+unfoldable pub causesOfN : List Cause
+causesOfN = NoSuchIdentifier ∷ Access ∷ WrongDecimals ∷ OutOfRange ∷ AtLimit ∷ []
+
+-- "not for this card, Type 4 without its offer, no message closed by this word"; and not well formed, whatever the position
+unfoldable pub silences : List Cause
+silences = NotForThisCard ∷ NoOffer ∷ NoMessageClosed ∷ NotWellFormed 0 ∷ []
+
+-- by its code
+unfoldable pub isOneOf : ℕ → List Cause → Bool
+isOneOf n [] = false
+isOneOf n (x ∷ xs) = eqb n (causeCode x) || isOneOf n xs

@@ -1,8 +1,11 @@
--- What only the private functions of this crate use, and no public contract cites: a message by its type, with the tests that its type has.
--- `proofs/Judged` shows that the list of tests comes to this.
+-- What only this crate's functions use, and no call and no claim cites: a message on `]` and on any other identifier by itself, and a message
+-- by its type, with the tests that its type has. `proofs/Judged` shows that the list of tests comes to this.
 use mathlib.Core.Bool.{cond, _&&_}
+use mathlib.Core.List.{List}
+use Prim.Native.Nat.{ℕ}
 use lib.Dec.{eqb}
 use lib.IntN.{ℤ}
+use Rattle.refusal.specs.Check.{Check, first, decided}
 use Rattle.number.specs.declared.Decimal.{Decimal}
 use Rattle.number.specs.Data.{withDecimals}
 use Rattle.number.specs.Number.{inRange, raised, lowered}
@@ -20,8 +23,8 @@ use Rattle.act.specs.declared.Setup.{Setup}
 use Rattle.act.specs.declared.Offer.{Offer}
 use Rattle.act.specs.declared.Offer.the-variants.{Nothing, Held}
 use Rattle.act.specs.declared.Effect.{Effect}
-use Rattle.act.specs.Cause.{rowOrZeros, isFor}
-use Rattle.act.specs.Act.{noEffect, silent, noNumber, says, accepts, shownBy, offers}
+use Rattle.act.specs.Cause.{rowOrZeros, onEntry, onBracket, isFor, causes}
+use Rattle.act.specs.Act.{noEffect, silent, noNumber, says, accepts, shownBy, offers, granted, hasScan, valueOf, scanOf, turnedDown}
 
 -- `N`, offer gone
 unfoldable pub declines : Message → Entry → ℤ → Effect
@@ -83,3 +86,20 @@ serveScan c m x body.Store = silent
 -- document 02, ticket 2: "the real card takes no notice of traffic for another letter or address"
 unfoldable pub addressed : Setup → Offer → Message → Effect → Effect
 addressed c o m x = cond (isFor c m) x (noEffect o)
+
+-- ---- by the list of tests, on `]` and on any other identifier
+
+abbrev pub scanCauses : Setup → Message → List Check
+scanCauses c m = causes c m (onBracket (hasScan c) (m .body))
+
+abbrev pub rowCauses : Setup → Offer → (ℕ → Entry) → (ℕ → ℤ) → Message → List Check
+rowCauses c o e v m = causes c m (onEntry (e (m .identifier)) o (v (m .identifier)) (m .identifier) (m .body))
+
+unfoldable pub onScan : Setup → Offer → (ℕ → Entry) → (ℕ → ℤ) → Message → Effect
+onScan c o e v m = decided (first (scanCauses c m)) (turnedDown o m noNumber) (says m Accepted (scanOf c (valueOf e v)))
+
+unfoldable pub onRow : Setup → Offer → (ℕ → Entry) → (ℕ → ℤ) → Message → Effect
+onRow c o e v m =
+    let x : Entry = e (m .identifier) in
+    let z : ℤ = v (m .identifier) in
+    decided (first (rowCauses c o e v m)) (turnedDown o m (shownBy x z)) (granted m (rowOrZeros x) o z (m .body))

@@ -6,16 +6,75 @@ ghost use lib.ListN.{getD};
 ghost use Rattle.refusal.specs.Check.{first};
 ghost use Rattle.number.specs.Number.{inRange, raised, lowered};
 ghost use Rattle.sheet.specs.Inner.{entryAt};
-ghost use Rattle.act.specs.Cause.{whyOf, stands, rowOrZeros, isFound, isOffered, onEntry, onBracket, causes, because};
-ghost use Rattle.act.specs.Act.{scanCauses, rowCauses};
-use crate::Cause;
+ghost use Rattle.act.specs.Cause.{whyOf, causeCode, stands, rowOrZeros, isFound, isOffered, onEntry, onBracket, causes, because};
+ghost use Rattle.act.specs.Inner.{scanCauses, rowCauses};
 use crate::Offer;
 use crate::Setup;
-use crate::Standing;
 use message::Body;
 use message::Message;
 use sheet::Entry;
 use sheet::Row;
+
+// Why a message is answered with `N` or with silence, or a word with silence: what the paper gives beside the reply. A closed message that
+// isn't well formed has the position of its first character that no well-formed message could have there.
+pub enum Cause {
+    None,
+    NoSuchIdentifier,
+    Access,
+    WrongDecimals,
+    OutOfRange,
+    AtLimit,
+    NotForThisCard,
+    NoOffer,
+    NoMessageClosed,
+    NotWellFormed(u8),
+}
+
+// How a message stands with the card, in the order of the tests: each is true where that test is passed, or its type doesn't make it.
+pub struct Standing {
+    pub offered: bool, // the identifier, for a Type 4
+    pub exists: bool, // the row, or the scan
+    pub allowed: bool, // by its access
+    pub matching: bool, // the decimals, for a Type 3
+    pub within: bool, // its number in range
+    pub reachable: bool, // a step's result in range
+}
+
+// The code of a cause, 0 for none; 4 is kept free.
+pub fn cause_code(cause: Cause) -> u8
+    ensures { λ r. ⌜ r ≡ causeCode cause ⌝ }
+{
+    match cause {
+        Cause::None => 0,
+        Cause::NoSuchIdentifier => 1,
+        Cause::Access => 2,
+        Cause::WrongDecimals => 3,
+        Cause::OutOfRange => 5,
+        Cause::AtLimit => 6,
+        Cause::NotForThisCard => 7,
+        Cause::NoOffer => 8,
+        Cause::NoMessageClosed => 9,
+        Cause::NotWellFormed(_) => 10,
+    }
+}
+
+// The position in a message that isn't well formed, 0 for any other cause.
+pub fn cause_position(cause: Cause) -> u8
+    ensures { λ r. ⌜ r ≡ whyOf cause .position ⌝ }
+{
+    match cause {
+        Cause::None => 0,
+        Cause::NoSuchIdentifier => 0,
+        Cause::Access => 0,
+        Cause::WrongDecimals => 0,
+        Cause::OutOfRange => 0,
+        Cause::AtLimit => 0,
+        Cause::NotForThisCard => 0,
+        Cause::NoOffer => 0,
+        Cause::NoMessageClosed => 0,
+        Cause::NotWellFormed(at) => at,
+    }
+}
 
 // A test is passed where its part is true; the first that isn't gives the cause.
 fn first_cause(setup: Setup, message: Message, standing: Standing) -> Cause
@@ -33,13 +92,13 @@ fn first_cause(setup: Setup, message: Message, standing: Standing) -> Cause
     if !standing.allowed {
         return Cause::Access;
     }
-    if !standing.decimals {
+    if !standing.matching {
         return Cause::WrongDecimals;
     }
-    if !standing.number {
+    if !standing.within {
         return Cause::OutOfRange;
     }
-    if !standing.step {
+    if !standing.reachable {
         return Cause::AtLimit;
     }
     Cause::None
@@ -85,8 +144,8 @@ fn is_offered(offer: Offer, identifier: u8) -> bool
 }
 
 // Types 2 and 3 ask for a row; what they ask of it is given.
-fn asks(entry: Entry, allowed: bool, decimals: bool, number: bool, step: bool) -> Standing
-    ensures { λ r. ⌜ r ≡ stands true (isFound entry) allowed decimals number step ⌝ }
+fn asks(entry: Entry, allowed: bool, matching: bool, within: bool, reachable: bool) -> Standing
+    ensures { λ r. ⌜ r ≡ stands true (isFound entry) allowed matching within reachable ⌝ }
 {
     let offered = true;
     let exists = is_found(entry);
@@ -94,9 +153,9 @@ fn asks(entry: Entry, allowed: bool, decimals: bool, number: bool, step: bool) -
         offered,
         exists,
         allowed,
-        decimals,
-        number,
-        step,
+        matching,
+        within,
+        reachable,
     }
 }
 
@@ -108,13 +167,13 @@ fn asks_offer(offered: bool) -> Standing
         offered,
         exists: true,
         allowed: true,
-        decimals: true,
-        number: true,
-        step: true,
+        matching: true,
+        within: true,
+        reachable: true,
     }
 }
 
-fn within(row: Row, x: i32) -> bool
+fn within_row(row: Row, x: i32) -> bool
     ensures { λ r. ⌜ r ≡ inRange (row .least) x (row .greatest) ⌝ }
 {
     number::in_range(row.least, x, row.greatest)
@@ -124,14 +183,14 @@ fn within(row: Row, x: i32) -> bool
 fn can_rise(row: Row, value: i32) -> bool
     ensures { λ r. ⌜ r ≡ inRange (row .least) (raised value (row .step)) (row .greatest) ⌝ }
 {
-    within(row, number::raised(value, row.step))
+    within_row(row, number::raised(value, row.step))
 }
 
 // Whether a step down does.
 fn can_fall(row: Row, value: i32) -> bool
     ensures { λ r. ⌜ r ≡ inRange (row .least) (lowered value (row .step)) (row .greatest) ⌝ }
 {
-    within(row, number::lowered(value, row.step))
+    within_row(row, number::lowered(value, row.step))
 }
 
 // A message on an identifier with this entry and value, by its type.
@@ -160,10 +219,24 @@ fn on_entry(entry: Entry, offer: Offer, value: i32, identifier: u8, body: Body) 
             entry,
             sheet::is_writable(row),
             x.decimals == row.decimals,
-            within(row, x.number),
+            within_row(row, x.number),
             true,
         ),
         Body::Store => asks_offer(is_offered(offer, identifier)),
+    }
+}
+
+// On `]` neither decimals nor a range are asked for.
+fn asks_scan(offered: bool, exists: bool, allowed: bool) -> Standing
+    ensures { λ r. ⌜ r ≡ stands offered exists allowed true true true ⌝ }
+{
+    Standing {
+        offered,
+        exists,
+        allowed,
+        matching: true,
+        within: true,
+        reachable: true,
     }
 }
 
@@ -172,25 +245,12 @@ fn on_bracket(some: bool, body: Body) -> Standing
     ensures { λ r. ⌜ r ≡ onBracket some body ⌝ }
 {
     match body {
-        Body::Status => bracket(some, true, false),
-        Body::Query => bracket(some, true, true),
-        Body::Up => bracket(some, true, false),
-        Body::Down => bracket(some, true, false),
-        Body::Set(_) => bracket(some, true, false),
-        Body::Store => bracket(some, false, false),
-    }
-}
-
-fn bracket(exists: bool, offered: bool, allowed: bool) -> Standing
-    ensures { λ r. ⌜ r ≡ stands offered exists allowed true true true ⌝ }
-{
-    Standing {
-        offered,
-        exists,
-        allowed,
-        decimals: true,
-        number: true,
-        step: true,
+        Body::Status => asks_scan(true, some, false),
+        Body::Query => asks_scan(true, some, true),
+        Body::Up => asks_scan(true, some, false),
+        Body::Down => asks_scan(true, some, false),
+        Body::Set(_) => asks_scan(true, some, false),
+        Body::Store => asks_scan(false, some, false),
     }
 }
 

@@ -5,8 +5,8 @@ ghost use lib.ListN.{getD};
 ghost use Rattle.number.specs.Data.{withDecimals};
 ghost use Rattle.sheet.specs.Inner.{entryAt};
 ghost use Rattle.act.specs.Cause.{rowOrZeros, isFor};
-ghost use Rattle.act.specs.Act.{noEffect, silent, answerTo, says, accepts, shownBy, offers, valueOf, scanOf, onScan, onRow};
-ghost use Rattle.act.specs.Inner.{declines, query, moves, up, down, setTo, store, serve, declinesScan, serveScan};
+ghost use Rattle.act.specs.Act.{noEffect, silent, answerTo, says, accepts, shownBy, offers, valueOf, scanOf};
+ghost use Rattle.act.specs.Inner.{declines, query, moves, up, down, setTo, store, serve, declinesScan, serveScan, onScan, onRow};
 use message::Body;
 use message::Message;
 use number::Decimal;
@@ -45,31 +45,6 @@ pub enum Said {
 pub enum Store {
     Keep,
     Put { place: u8, value: i32 },
-}
-
-// Why a message is answered with `N` or with silence, or a word with silence: what the paper gives beside the reply. A closed message that
-// isn't well formed has the position of its first character that no well-formed message could have there.
-pub enum Cause {
-    None,
-    NoSuchIdentifier,
-    Access,
-    WrongDecimals,
-    OutOfRange,
-    AtLimit,
-    NotForThisCard,
-    NoOffer,
-    NoMessageClosed,
-    NotWellFormed(usize),
-}
-
-// How a message stands with the card, in the order of the tests: each is true where that test is passed.
-pub struct Standing {
-    pub offered: bool,
-    pub exists: bool,
-    pub allowed: bool,
-    pub decimals: bool,
-    pub number: bool,
-    pub step: bool,
 }
 
 // What a heard message leads to.

@@ -1,4 +1,5 @@
 pub mod Turns
+pub mod Causes
 pub mod Sounds
 pub mod Steps
 pub mod Settled

@@ -17,6 +17,7 @@ use Rattle.reply.specs.Reply.{longestReply}
 use Rattle.act.specs.declared.Effect.{Effect}
 use Rattle.card.specs.declared.Card.{Card}
 use Rattle.card.specs.Turn.{replyOf, withBoth, turned, stored}
+use Rattle.act.specs.Cause.{Why}
 use Rattle.card.specs.Calls.{answered}
 use Rattle.card.specs.Inner.{Settled, settles}
 use Rattle.card.proofs.Turns.{reply-length}
@@ -86,10 +87,10 @@ module _ (c : Card) (e : Effect) (values : List ℤ) (out : List ℕ) (h : longe
       let u = refused-undone e values 0 out s p k r in
       omega (arith, u .unsaid .short, reply-length (e .said))
 
-  pub answered-is : (c′ : Card) (n : ℕ) → c′ ≡ withBoth c (c .pending) (e .offer) → s .outcome ≡ gave n
-      → record { card = c′; outcome = gave n; values = s .values; buffer = s .buffer } ≡ answered (turned c (c .pending) e) values out
+  pub answered-is : (c′ : Card) (n : ℕ) (y : Why) → c′ ≡ withBoth c (c .pending) (e .offer) → s .outcome ≡ gave n
+      → record { card = c′; outcome = gave (record { bytes = n; cause = y }); values = s .values; buffer = s .buffer } ≡ answered (turned c (c .pending) e) y values out
   unfolding turned
-  answered-is c′ n q g =
+  answered-is c′ n y q g =
       let d = gave-done e values 0 out s p n g in
       let b = d .said .leaves ∙ placed-front (replyOf (e .said)) out in
-      λ j. record { card = q j; outcome = gave (d .said .count j); values = d .kept j; buffer = b j }
+      λ j. record { card = q j; outcome = gave (record { bytes = d .said .count j; cause = y }); values = d .kept j; buffer = b j }

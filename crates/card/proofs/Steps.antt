@@ -17,10 +17,12 @@ use Rattle.reply.specs.Reply.{longestReply}
 use Rattle.sheet.specs.Sheet.{soundSheet}
 use Rattle.sheet.specs.Values.{soundValues}
 use Rattle.card.specs.declared.Card.{Card}
+use Rattle.act.specs.Cause.{Why}
+use Rattle.card.specs.Cause.{whyTo}
 use Rattle.card.specs.Turn.{turn, stored, play}
 use Rattle.card.proofs.Turns.{stays}
 use Rattle.card.specs.Refusals.{soundCard, soundOffer, soundScan, cardChecks, roomCheck, stepChecks}
-use Rattle.card.specs.Calls.{After, kept, answered, stepCall, ended, runCall}
+use Rattle.card.specs.Calls.{After, kept, WordAnswer, bytesOf, answered, stepCall, ended, runCall}
 
 -- a test that is passed
 passes : {b : Bool} → b ≡ true → not b ≡ false
@@ -110,7 +112,7 @@ module _ (c : Card) (bench maker values : List ℤ) (w : ℕ) (out : List ℕ) w
   checks = cardChecks c bench maker values (w ∷ [])
 
   -- by the first of its tests that holds
-  pub step-is : stepCall c bench maker values w out ≡ decided (first (stepChecks c bench maker values w out)) (kept c values out) (answered (turn bench maker c values w) values out)
+  pub step-is : stepCall c bench maker values w out ≡ decided (first (stepChecks c bench maker values w out)) (kept c values out) (answered (turn bench maker c values w) (whyTo bench maker c values w) values out)
   unfolding stepCall
   step-is = refl
 
@@ -118,28 +120,28 @@ module _ (c : Card) (bench maker values : List ℤ) (w : ℕ) (out : List ℕ) w
   unfolding stepCall stepChecks
   step-refused n e = rw (append-refused checks (roomCheck out ∷ []) n e)
 
-  pub step-passed : first checks ≡ gave tt → stepCall c bench maker values w out ≡ decided (first (roomCheck out ∷ [])) (kept c values out) (answered (turn bench maker c values w) values out)
+  pub step-passed : first checks ≡ gave tt → stepCall c bench maker values w out ≡ decided (first (roomCheck out ∷ [])) (kept c values out) (answered (turn bench maker c values w) (whyTo bench maker c values w) values out)
   unfolding stepCall stepChecks
   step-passed e = rw (append-passed checks (roomCheck out ∷ []) e)
 
   -- it is served exactly where its tests are passed and there is room
-  pub step-served : first checks ≡ gave tt → longestReply ≤ length out → stepCall c bench maker values w out ≡ answered (turn bench maker c values w) values out
+  pub step-served : first checks ≡ gave tt → longestReply ≤ length out → stepCall c bench maker values w out ≡ answered (turn bench maker c values w) (whyTo bench maker c values w) values out
   step-served e h = step-passed e ∙ rw (room-enough out h)
 
-  pub record StepServed (n : ℕ) : Type 0 where
+  pub record StepServed : Type 0 where
     pub passed : first checks ≡ gave tt
     pub room : longestReply ≤ length out
-    pub leaves : stepCall c bench maker values w out ≡ answered (turn bench maker c values w) values out
+    pub leaves : stepCall c bench maker values w out ≡ answered (turn bench maker c values w) (whyTo bench maker c values w) values out
 
-  pub served-step : (n : ℕ) → stepCall c bench maker values w out .outcome ≡ gave n → StepServed n
+  pub served-step : (n : ℕ) → bytesOf (stepCall c bench maker values w out .outcome) ≡ gave n → StepServed
   served-step n e =
       by-first checks
-      (λ k r. absurd (refused-gave (sym (ap (λ (s : After ℕ). s .outcome) (step-refused k r)) ∙ e)))
+      (λ k r. absurd (refused-gave (sym (ap (λ (s : After WordAnswer). bytesOf (s .outcome)) (step-refused k r)) ∙ e)))
       (λ p.
       by-test (ltb (length out) longestReply)
       (λ t.
       let s : stepCall c bench maker values w out ≡ kept c values out 5 = step-passed p ∙ rw (room-short out (ltb-true _ _ t)) in
-      absurd (refused-gave (sym (ap (λ (s : After ℕ). s .outcome) s) ∙ e)))
+      absurd (refused-gave (sym (ap (λ (s : After WordAnswer). bytesOf (s .outcome)) s) ∙ e)))
       (λ t. let h = ltb-false _ _ t in record { passed = p; room = h; leaves = step-served p h }))
 
 module _ (c : Card) (bench maker values : List ℤ) (ws out : List ℕ) where
@@ -158,6 +160,7 @@ module _ (c : Card) (bench maker values : List ℤ) (ws out : List ℕ) where
 -- ---- what a word that is served leaves, as the code has it
 
 -- a word that draws nothing and stores nothing
-pub quiet-answered : (c : Card) (values : List ℤ) (out : List ℕ) → record { card = c; outcome = gave 0; values = values; buffer = out } ≡ answered (stays c) values out
+pub quiet-answered : (c : Card) (y : Why) (values : List ℤ) (out : List ℕ) → record { card = c; outcome = gave (record { bytes = 0; cause = y }); values = values; buffer = out } ≡ answered (stays c) y values out
 unfolding stored
-quiet-answered c values out = λ j. record { card = c; outcome = gave 0; values = values; buffer = sym (laid-nothing out) j }
+quiet-answered c y values out =
+    λ j. record { card = c; outcome = gave (record { bytes = 0; cause = y }); values = values; buffer = sym (laid-nothing out) j }

@@ -32,8 +32,10 @@ use Rattle.act.specs.declared.Said.the-variants.{Silence, Reply}
 use Rattle.act.specs.declared.Effect.{Effect}
 use Rattle.act.specs.declared.Store.the-variants.{Keep}
 use Rattle.act.specs.Cause.{isFor}
-use Rattle.act.specs.Act.{noEffect, onScan, onRow, respond, act}
-use Rattle.act.proofs.OnOffer.{act-neighbour, scan-responds, row-responds}
+use Rattle.act.specs.Act.{noEffect, respond, act}
+use Rattle.act.specs.Inner.{onScan, onRow}
+use Rattle.act.proofs.Judged.{scan-responds, row-responds}
+use Rattle.act.proofs.OnOffer.{act-neighbour}
 use Rattle.card.specs.declared.Card.{Card}
 use Rattle.card.specs.Inner.{isScan}
 use Rattle.card.specs.Turn.{Turn, replyOf, effectOf, withBoth, turned, turn}
@@ -76,11 +78,11 @@ module _ (bench maker : List ℤ) where
 
       pub effect-scan : isScan p ≡ true → onScan s o (entryAt bench maker places) (λ (i : ℕ). getD values i (pos 0)) m ≡ effectOf bench maker s o values p
       unfolding isScan
-      effect-scan q = scan-responds s o (entryAt bench maker places) (λ (i : ℕ). getD values i (pos 0)) m (sym (ap isScan h) ∙ q) ∙ indexed
+      effect-scan q = scan-responds s o m (entryAt bench maker places) (λ (i : ℕ). getD values i (pos 0)) (sym (ap isScan h) ∙ q) ∙ indexed
 
       pub effect-row : isScan p ≡ false → onRow s o (entryAt bench maker places) (λ (i : ℕ). getD values i (pos 0)) m ≡ effectOf bench maker s o values p
       unfolding isScan
-      effect-row q = row-responds s o (entryAt bench maker places) (λ (i : ℕ). getD values i (pos 0)) m (sym (ap isScan h) ∙ q) ∙ indexed
+      effect-row q = row-responds s o m (entryAt bench maker places) (λ (i : ℕ). getD values i (pos 0)) (sym (ap isScan h) ∙ q) ∙ indexed
 
   -- ---- a word
 

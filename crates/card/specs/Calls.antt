@@ -13,6 +13,8 @@ use Rattle.card.specs.declared.Stepped.{Stepped}
 use Rattle.card.specs.declared.RunAnswer.{RunAnswer}
 use Rattle.card.specs.declared.RunAnswer.the-variants as run
 use Rattle.card.specs.declared.Ran.{Ran}
+use Rattle.act.specs.Cause.{Why, whyOf}
+use Rattle.card.specs.Cause.{whyTo}
 use Rattle.card.specs.Turn.{Turn, turn, stored, Played, play}
 use Rattle.card.specs.Refusals.{cardChecks, stepChecks}
 
@@ -29,21 +31,33 @@ kept c values out n = record { card = c; outcome = refused n; values = values; b
 
 -- ---- one word
 
--- the answer: a number, or how many bytes were replied, 0 for silence
-abbrev pub stepOutcome : StepAnswer → Outcome ℕ
-stepOutcome (step.Refused r) = refused (numberOf r)
-stepOutcome (step.Replied n) = gave n
+-- what a served word gives: how many bytes were replied, 0 for silence, and why it was `N` or silence
+pub record WordAnswer : Type 0 where
+  pub bytes : ℕ
+  pub cause : Why
 
-abbrev pub stepAfter : Stepped → List ℤ → List ℕ → After ℕ
+-- the answer: a number, or that
+abbrev pub stepOutcome : StepAnswer → Outcome WordAnswer
+stepOutcome (step.Refused r) = refused (numberOf r)
+stepOutcome (step.Replied n x) = gave (record { bytes = n; cause = whyOf x })
+
+-- its bytes alone
+abbrev pub bytesOf : Outcome WordAnswer → Outcome ℕ
+bytesOf (refused n) = refused n
+bytesOf (gave s) = gave (s .bytes)
+
+abbrev pub stepAfter : Stepped → List ℤ → List ℕ → After WordAnswer
 stepAfter r values out = record { card = r .card; outcome = stepOutcome (r .answer); values = values; buffer = out }
 
 -- what a word that is served leaves
-abbrev pub answered : Turn → List ℤ → List ℕ → After ℕ
-answered t values out = record { card = t .card; outcome = gave (length (t .reply)); values = stored values (t .store); buffer = laid (t .reply) out }
+abbrev pub answered : Turn → Why → List ℤ → List ℕ → After WordAnswer
+answered t y values out =
+    record { card = t .card; outcome = gave (record { bytes = length (t .reply); cause = y }); values = stored values (t .store); buffer = laid (t .reply) out }
 
-unfoldable pub stepCall : Card → List ℤ → List ℤ → List ℤ → ℕ → List ℕ → After ℕ
+unfoldable pub stepCall : Card → List ℤ → List ℤ → List ℤ → ℕ → List ℕ → After WordAnswer
 stepCall c bench maker values w out =
-    decided (first (stepChecks c bench maker values w out)) (kept c values out) (answered (turn bench maker c values w) values out)
+    decided (first (stepChecks c bench maker values w out)) (kept c values out)
+    (answered (turn bench maker c values w) (whyTo bench maker c values w) values out)
 
 -- ---- a run
 

@@ -1,4 +1,5 @@
 pub mod Turn
+pub mod Cause
 pub mod Refusals
 pub mod Calls
 pub mod Inner

@@ -6,9 +6,12 @@ ghost use Prim.Native.Nat.{_≤_};
 ghost use Rattle.refusal.specs.Refusal.{outcomeOf};
 ghost use Rattle.refusal.specs.Call.{callOf, placeCall};
 ghost use Rattle.reply.specs.Reply.{longestReply};
+ghost use Rattle.hearing.specs.Hearing.{openOf};
 ghost use Rattle.sheet.specs.Sheet.{soundSheet};
 ghost use Rattle.sheet.specs.Inner.{indexOf};
+ghost use Rattle.act.specs.Cause.{whyOf};
 ghost use Rattle.card.specs.Turn.{replyOf, effectOf, turned, stored, play};
+ghost use Rattle.card.specs.Cause.{whyClosed};
 ghost use Rattle.card.specs.Inner.{settles, isScan};
 ghost use Rattle.card.specs.Calls.{stepAfter, answered, runAfter, ended};
 use crate::Card;
@@ -21,6 +24,7 @@ use act::Offer;
 use act::Said;
 use act::Setup;
 use act::Store;
+use act::causes::Cause;
 use hearing::Halt;
 use hearing::Pending;
 use message::Parsed;
@@ -86,6 +90,30 @@ fn effect_of<'a>(
     act::on_row(setup, offer, bench, maker, places, values, message)
 }
 
+// Why a closed message isn't accepted, at a card with this setup and offer; `pending` holds its characters. `places` is the index of the
+// two sheets.
+fn cause_of<'a>(
+    setup: Setup,
+    offer: Offer,
+    bench: &'a [i32],
+    maker: &'a [i32],
+    places: &[usize],
+    values: &[i32],
+    pending: Pending,
+    parsed: Parsed,
+) -> Cause
+    requires { ⌜ (soundSheet (now bench) ≡ true) × (soundSheet (now maker) ≡ true) × (now places ≡ indexOf (now bench) (now maker)) ⌝ }
+    ensures { λ r. ⌜ whyOf r ≡ whyClosed (now (bench .entry)) (now (maker .entry)) setup offer (now (values .entry)) (openOf pending) parsed ⌝ }
+{
+    let Parsed::Heard(message) = parsed else {
+        return Cause::NotWellFormed(pending.position());
+    };
+    if message.identifier == reply::SCAN {
+        return act::causes::scan_cause(setup, message);
+    }
+    act::causes::row_cause(setup, offer, bench, maker, places, values, message)
+}
+
 // The one write to the values.
 fn keep(values: &mut [i32], store: Store)
     ensures { λ _. ⌜ now (values .exit) ≡ stored (now (values .entry)) store ⌝ }
@@ -113,21 +141,23 @@ fn settle(effect: Effect, values: &mut [i32], out: &mut [u8], at: usize) -> Writ
     Written::Wrote(n)
 }
 
-// A card whose message was closed, and what that message leads to. There is room for any reply.
+// A card whose message was closed, what that message leads to, and why; `pending` holds its characters. There is room for any reply.
 pub(crate) fn answer<'a>(
     card: Card,
     bench: &'a [i32],
     maker: &'a [i32],
     values: &mut [i32],
+    pending: Pending,
     parsed: Parsed,
     out: &mut [u8],
 ) -> Stepped
     requires { ⌜ (soundSheet (now bench) ≡ true) × (soundSheet (now maker) ≡ true) × (longestReply ≤ length (now out)) ⌝ }
-    ensures { λ r. ⌜ stepAfter r (now (values .exit)) (now (out .exit)) ≡ answered (turned card (card .pending) (effectOf (now (bench .entry)) (now (maker .entry)) (card .setup) (card .offer) (now (values .entry)) parsed)) (now (values .entry)) (now (out .entry)) ⌝ }
+    ensures { λ r. ⌜ stepAfter r (now (values .exit)) (now (out .exit)) ≡ answered (turned card (card .pending) (effectOf (now (bench .entry)) (now (maker .entry)) (card .setup) (card .offer) (now (values .entry)) parsed)) (whyClosed (now (bench .entry)) (now (maker .entry)) (card .setup) (card .offer) (now (values .entry)) (openOf pending) parsed) (now (values .entry)) (now (out .entry)) ⌝ }
 {
     let setup = card.setup;
     let held = card.offer;
     let places = sheet::index(bench, maker);
+    let cause = cause_of(setup, held, bench, maker, &places, values, pending, parsed);
     let effect = if is_scan(parsed) {
         scan_effect(setup, held, bench, maker, &places, values, parsed)
     } else {
@@ -140,8 +170,8 @@ pub(crate) fn answer<'a>(
             let answer = StepAnswer::Refused(refusal);
             Stepped { card, answer }
         }
-        Written::Wrote(n) => {
-            let answer = StepAnswer::Replied(n);
+        Written::Wrote(bytes) => {
+            let answer = StepAnswer::Replied { bytes, cause };
             Stepped { card, answer }
         }
     }

@@ -9,10 +9,12 @@ ghost use Rattle.hearing.specs.Hearing.{none, added};
 ghost use Rattle.sheet.specs.Sheet.{soundSheet};
 ghost use Rattle.sheet.specs.Values.{entryIn, isReadableEntry};
 ghost use Rattle.card.specs.Turn.{withBoth, turn};
+ghost use Rattle.card.specs.Cause.{whyTo};
 ghost use Rattle.card.specs.Refusals.{soundSetup, soundCard, soundOffer, soundScan, cardChecks, roomCheck};
 ghost use Rattle.card.specs.Calls.{kept, stepOutcome, stepAfter, answered, stepCall, runAfter, runCall};
 use act::Offer;
 use act::Setup;
+use act::causes::Cause;
 use hearing::Action;
 use hearing::Pending;
 use refusal::Refusal;
@@ -28,10 +30,10 @@ pub struct Card {
     pub offer: Offer,
 }
 
-// What the single word's calls answer: how many bytes were replied, 0 for silence.
+// What the single word's calls answer: how many bytes were replied, 0 for silence, and why it was `N` or silence.
 pub enum StepAnswer {
     Refused(Refusal),
-    Replied(usize),
+    Replied { bytes: usize, cause: Cause },
 }
 
 // What a single word gives: the card beside the answer.
@@ -231,9 +233,11 @@ pub fn check<'a>(
 
 // A word that closed no message: nothing is said, nothing stored.
 fn quiet(card: Card) -> Stepped
-    ensures { λ r. ⌜ r ≡ record { card = card; answer = StepAnswer.Replied 0 } ⌝ }
+    ensures { λ r. ⌜ r ≡ record { card = card; answer = StepAnswer.Replied 0 Cause.NoMessageClosed } ⌝ }
 {
-    let answer = StepAnswer::Replied(0);
+    let bytes = 0;
+    let cause = Cause::NoMessageClosed;
+    let answer = StepAnswer::Replied { bytes, cause };
     Stepped { card, answer }
 }
 
@@ -254,7 +258,7 @@ fn take<'a>(
     out: &mut [u8],
 ) -> Stepped
     requires { ⌜ (soundSheet (now bench) ≡ true) × (soundSheet (now maker) ≡ true) ⌝ }
-    ensures { λ r. ⌜ stepAfter r (now (values .exit)) (now (out .exit)) ≡ decided (first (roomCheck (now (out .entry)) ∷ [])) (kept card (now (values .entry)) (now (out .entry))) (answered (turn (now (bench .entry)) (now (maker .entry)) card (now (values .entry)) word) (now (values .entry)) (now (out .entry))) ⌝ }
+    ensures { λ r. ⌜ stepAfter r (now (values .exit)) (now (out .exit)) ≡ decided (first (roomCheck (now (out .entry)) ∷ [])) (kept card (now (values .entry)) (now (out .entry))) (answered (turn (now (bench .entry)) (now (maker .entry)) card (now (values .entry)) word) (whyTo (now (bench .entry)) (now (maker .entry)) card (now (values .entry)) word) (now (values .entry)) (now (out .entry))) ⌝ }
 {
     if out.len() < reply::LONGEST_REPLY {
         return refused(card, Refusal::RoomTooShort);
@@ -266,7 +270,7 @@ fn take<'a>(
         Action::Add(c) => quiet(card.add(c)),
         Action::Close => {
             let parsed = pending.close();
-            answering::answer(card.close(), bench, maker, values, parsed, out)
+            answering::answer(card.close(), bench, maker, values, pending, parsed, out)
         }
         Action::Drop => quiet(card.close()),
     }

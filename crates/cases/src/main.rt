@@ -19,7 +19,9 @@
 // The letter is `L` where none is named; no message open and no offer.
 // CHANGE is one initial value that the case has otherwise, as `m=1000`, in units of the last decimal; `-` where there is none.
 // SENT is a message, each character in good parity, but for `{256}`, a silence; `{M!}`, an `M` in bad parity; `{sp}`, a space.
-// ANSWER is what the card says to all of it, and `-` is silence. A case has at most `player::MESSAGES` messages.
+// ANSWER is what the card says to all of it, and `-` is silence. It may end in the cause that the last word of SENT gives word by word, as
+// `L7X00000N*:1` or `-:10.3`: `:` and its code, and for a message that isn't well formed `.` and the position in it. Without `:` no cause
+// is compared; a run has none. A case has at most `player::MESSAGES` messages.
 //
 // Standard output has a line for each case, `NAME ok` or `NAME differs at K`, K the first message whose answer is another (0 where
 // the line is no case), and then how many cases there are and how many differ. The empty line is no case.

@@ -1,10 +1,13 @@
 // A case on a card: its messages at once and word by word, and each answer compared.
 use crate::reader::change;
 use crate::reader::field;
+use crate::reader::spells;
 use crate::reader::start;
+use crate::reader::stop;
 use crate::reader::words_of;
 use act::Offer;
 use act::Setup;
+use act::causes::Cause;
 use card::Card;
 use card::RunAnswer;
 use card::StepAnswer;
@@ -29,10 +32,11 @@ struct Played {
     same: bool,
 }
 
-// The card after some words, and how many bytes it has said; `fine` where no call was refused.
+// The card after some words, how many bytes it has said, and the cause that the last word gave; `fine` where no call was refused.
 struct Saying {
     card: Card,
     said: usize,
+    cause: Cause,
     fine: bool,
 }
 
@@ -51,19 +55,42 @@ fn starts(bytes: &[u8], characters: &[u8]) -> bool {
     true
 }
 
-// Whether the `said` first bytes are the answer.
+// Whether the `said` first bytes are what the answer has before its cause.
 fn is_answer(bytes: &[u8], said: usize, answer: &[u8]) -> bool {
-    if answer.len() == 0 {
+    let end = stop(answer, 0, b':');
+    if end == 0 {
         return false;
     }
     if answer[0] == b'-' {
         return said == 0;
     }
-    if said == answer.len() {
-        starts(bytes, answer)
+    if said == end {
+        starts(bytes, &answer[0..end])
     } else {
         false
     }
+}
+
+// Whether the text is the code of this cause, or its code, a dot and its position.
+fn is_cause(cause: Cause, text: &[u8]) -> bool {
+    let dot = stop(text, 0, b'.');
+    if !spells(&text[0..dot], act::causes::cause_code(cause)) {
+        return false;
+    }
+    let position = act::causes::cause_position(cause);
+    if dot == text.len() {
+        return position == 0;
+    }
+    spells(&text[dot + 1..], position)
+}
+
+// Whether the cause is the one that the answer ends in, if it ends in one.
+fn is_answered(cause: Cause, answer: &[u8]) -> bool {
+    let end = stop(answer, 0, b':');
+    if end == answer.len() {
+        return true;
+    }
+    is_cause(cause, &answer[end + 1..])
 }
 
 // A message at once.
@@ -90,17 +117,23 @@ fn by_run<'a>(
     Played { card, same }
 }
 
-// So many bytes more were said.
-fn further(card: Card, said: usize, n: usize, fine: bool) -> Saying {
+// So many bytes more were said, with this cause.
+fn further(card: Card, said: usize, n: usize, cause: Cause, fine: bool) -> Saying {
     if n <= REPLIES {
         if said <= REPLIES {
             let said = said + n;
-            return Saying { card, said, fine };
+            return Saying {
+                card,
+                said,
+                cause,
+                fine,
+            };
         }
     }
     Saying {
         card,
         said,
+        cause,
         fine: false,
     }
 }
@@ -122,14 +155,15 @@ fn one<'a>(
     let stepped = card::step(before, bench, maker, values, word, &mut out[said..]);
     let card = stepped.card;
     let answer = stepped.answer;
-    let StepAnswer::Replied(n) = answer else {
+    let StepAnswer::Replied { bytes: n, cause } = answer else {
         return Saying {
             card,
             said,
+            cause: Cause::None,
             fine: false,
         };
     };
-    further(card, said, n, saying.fine)
+    further(card, said, n, cause, saying.fine)
 }
 
 // The words one by one.
@@ -144,6 +178,7 @@ fn each<'a>(
     let mut saying = Saying {
         card,
         said: 0,
+        cause: Cause::None,
         fine: true,
     };
     let mut i = 0;
@@ -166,7 +201,8 @@ fn by_steps<'a>(
     let mut out = [0u8; REPLIES];
     let saying = each(card, bench, maker, values, words, &mut out);
     let card = saying.card;
-    let same = saying.fine & is_answer(&out, saying.said, answer);
+    let cause = saying.cause;
+    let same = saying.fine & is_answer(&out, saying.said, answer) & is_answered(cause, answer);
     Played { card, same }
 }
 

@@ -99,6 +99,11 @@ fn is_number(text: &[u8]) -> bool {
     (0 < text.len()) & (text.len() < 5)
 }
 
+// Whether the text is this number, in one to four digits.
+pub(crate) fn spells(text: &[u8], n: u8) -> bool {
+    is_number(text) & (digits(text) == word(n))
+}
+
 // Stores a number of one to four digits; answers whether it is one, and the place is there.
 fn store(values: &mut [i32], place: usize, text: &[u8], below: bool) -> bool {
     if !is_number(text) {

@@ -18,7 +18,7 @@ use Rattle.reply.proofs.Reader.{read-spelled}
 use Rattle.act.specs.declared.Said.the-variants.{Silence, Reply}
 use Rattle.card.specs.declared.Card.{Card}
 use Rattle.card.specs.Turn.{turn}
-use Rattle.card.specs.Calls.{After, stepCall}
+use Rattle.card.specs.Calls.{After, WordAnswer, bytesOf, stepCall}
 use Rattle.card.proofs.Turns.{turn-spells, turn-silent}
 use Rattle.card.proofs.Sounds.{said-answer}
 use Rattle.demands.specs.Terms.{Sound, saidTo}
@@ -40,30 +40,30 @@ module _ (bench maker : List ℤ) (c : Card) (values : List ℤ) (w : ℕ) where
   said-is s = said-answer bench maker c values (s .offer-sound) (s .scan-sound) (s .values-sound) w
 
   module _ (out : List ℕ) (s : Sound bench maker c values) (v : w ≤ 256) (h : longestReply ≤ length out) where
-    abbrev call : After ℕ
+    abbrev call : After WordAnswer
     call = stepCall c bench maker values w out
 
     -- the call by its reply
-    by-reply : (bs : List ℕ) → turn bench maker c values w .reply ≡ bs → (call .outcome ≡ gave (length bs)) × (call .buffer ≡ laid bs out)
+    by-reply : (bs : List ℕ) → turn bench maker c values w .reply ≡ bs → (bytesOf (call .outcome) ≡ gave (length bs)) × (call .buffer ≡ laid bs out)
     by-reply bs e =
         let l = taken bench maker c values s w out v h in
-        (ap (λ (a : After ℕ). a .outcome) l ∙ ap (λ (x : List ℕ). gave (length x)) e, ap (λ (a : After ℕ). a .buffer) l ∙ ap (λ (x : List ℕ). laid x out) e)
+        (ap (λ (a : After WordAnswer). bytesOf (a .outcome)) l ∙ ap (λ (x : List ℕ). gave (length x)) e, ap (λ (a : After WordAnswer). a .buffer) l ∙ ap (λ (x : List ℕ). laid x out) e)
 
     -- it writes the spelling of what is said
     pub writes-spelling : (a : Answer) → saidTo bench maker c values w ≡ Reply a
-        → (call .outcome ≡ gave (length (travelling (spellAnswer a)))) × (take (length (travelling (spellAnswer a))) (call .buffer) ≡ travelling (spellAnswer a))
+        → (bytesOf (call .outcome) ≡ gave (length (travelling (spellAnswer a)))) × (take (length (travelling (spellAnswer a))) (call .buffer) ≡ travelling (spellAnswer a))
     writes-spelling a e =
         let bs = travelling (spellAnswer a) in
         let p = by-reply bs (said-bytes a e) in
         (p .0, ap (take (length bs)) (p .1) ∙ laid-front bs out)
 
-    reply-reads : (a : Answer) → saidTo bench maker c values w ≡ Reply a → (call .outcome ≡ gave (length (spellAnswer a))) × (readCall (take (length (spellAnswer a)) (call .buffer)) ≡ gave a)
+    pub reply-reads : (a : Answer) → saidTo bench maker c values w ≡ Reply a → (bytesOf (call .outcome) ≡ gave (length (spellAnswer a))) × (readCall (take (length (spellAnswer a)) (call .buffer)) ≡ gave a)
     reply-reads a e =
         let p = writes-spelling a e in
         let l = travelling-length (spellAnswer a) in
         (p .0 ∙ ap gave l, ap (λ (n : ℕ). readCall (take n (call .buffer))) (sym l) ∙ ap readCall (p .1) ∙ read-spelled a (said-is s a e))
 
-    reply-silent : saidTo bench maker c values w ≡ Silence → (call .outcome ≡ gave 0) × (call .buffer ≡ out)
+    pub reply-silent : saidTo bench maker c values w ≡ Silence → (bytesOf (call .outcome) ≡ gave 0) × (call .buffer ≡ out)
     reply-silent e = let p = by-reply [] (said-nothing e) in (p .0, p .1 ∙ laid-nothing out)
 
 pub reply-read : ReplyRead

@@ -15,6 +15,7 @@ use Rattle.number.specs.Number.{inRange, isMultiple, cutDown, cut, raised, lowe
 use Rattle.number.specs.Data.{digit, isDigit, digitOf, fits, codeOf, fiveDigits, spellData, spellAll, decode, readNext, readFrom, readData}
 use Rattle.message.specs.Message.{isLetter, isAddress, isIdentifier}
 use Rattle.message.specs.Prefix.{extendIdentifier, extendAddress, extendData, extendBody, extend, extendAll, finish, parse}
+use Rattle.message.specs.Position.{isWrong, matched, position}
 use Rattle.message.specs.Spell.{spellAddress}
 use Rattle.hearing.specs.Hearing.{none, added, openOf, opening, continuing, actionOf, perform, hear, before, heardFrom, heard}
 use Rattle.hearing.specs.Sound.{plainChar, plain, zeros, soundPending}
@@ -25,17 +26,19 @@ use Rattle.sheet.specs.Values.{numbersOf, entryOf, entryIn, isReadable, isReada
 use Rattle.reply.specs.Reply.{spellScan, spellContent, spellAnswer, isNoNumber, fitsContent, isAnswer}
 use Rattle.reply.specs.Read.{charactersOf, guessMark, readOrZero, decimalAt, guessContent, guessBehind, guess, isReply, readCall}
 use Rattle.act.specs.declared.Offer.the-variants.{Nothing}
-use Rattle.act.specs.Cause.{isFor, isOffered, onEntry, onBracket, causes}
-use Rattle.act.specs.Act.{namesFrom, valueOf, scanOf, says, accepts, shownBy, offers, granted, turnedDown, onScan, onRow, respond, act}
+use Rattle.act.specs.Cause.{isFor, isOffered, standing, onBracket, causes}
+use Rattle.act.specs.Act.{namesFrom, valueOf, scanOf, says, accepts, shownBy, offers, granted, turnedDown, respond, act, causesIn}
 use Rattle.card.specs.Turn.{effectOf, turned, turn, stored, play}
-use Rattle.card.specs.Refusals.{soundScan, soundSetup, soundCard, offerable, soundOffer, cardChecks}
-use Rattle.card.specs.Calls.{runCall}
+use Rattle.card.specs.Cause.{whyClosed, whyAfter, whyTo}
+use Rattle.card.specs.Refusals.{soundScan, soundSetup, soundCard, offerable, soundOffer, cardChecks, stepChecks}
+use Rattle.card.specs.Calls.{stepCall, runCall}
 use Rattle.demands.specs.Terms.{Sound}
+use Rattle.demands.specs.Causes.{sameWhy, gaveCause, drawsIt, causeCases, everyCause, hasCase}
 use Rattle.demands.specs.Bench.{benchRows, benchValues, benchCard, Case, benchCases, twentyNeighbours, moreCases, scanCases, noReplies, timeRow, scanValues, scanCard, equalZ, took, answersAll, passes, passesScan, isNoReply}
 
 -- what a table computes through
 computed : List Case → Bool
-unfolding ones onesIn every same laid first evenParity withParity received travelling validWords inRange isMultiple cutDown cut raised lowered digit isDigit digitOf fits codeOf fiveDigits spellData decode readNext readFrom readData isLetter isAddress isIdentifier extendIdentifier extendAddress extendData extendBody extend extendAll finish parse spellAddress none added openOf opening continuing actionOf perform hear plainChar plain zeros soundPending rows soundIdentifier soundNumbers soundRow soundRows soundSheet codeIs lookup.isFor rowAmong placeAmong rowIn placeIn hasRow rowOf numbersOf entryOf entryIn isReadable isWritable isReadWrite fitsRow fitsPlace soundFrom soundValues spellContent spellAnswer says accepts shownBy offers granted isOffered onEntry onBracket isFor causes turnedDown onScan onRow respond act effectOf turned turn stored play soundSetup soundCard offerable soundOffer isReadableEntry namesFrom soundScan cardChecks runCall benchRows benchValues benchCard equalZ took answersAll passes
+unfolding ones onesIn every same laid first evenParity withParity received travelling validWords inRange isMultiple cutDown cut raised lowered digit isDigit digitOf fits codeOf fiveDigits spellData decode readNext readFrom readData isLetter isAddress isIdentifier extendIdentifier extendAddress extendData extendBody extend extendAll finish parse spellAddress none added openOf opening continuing actionOf perform hear plainChar plain zeros soundPending rows soundIdentifier soundNumbers soundRow soundRows soundSheet codeIs lookup.isFor rowAmong placeAmong rowIn placeIn hasRow rowOf numbersOf entryOf entryIn isReadable isWritable isReadWrite fitsRow fitsPlace soundFrom soundValues spellContent spellAnswer says accepts shownBy offers granted isOffered standing onBracket isFor causes turnedDown respond act effectOf turned turn stored play soundSetup soundCard offerable soundOffer isReadableEntry namesFrom soundScan cardChecks runCall benchRows benchValues benchCard equalZ took answersAll passes
 computed xs = every passes xs
 
 -- cases a to l
@@ -60,6 +63,15 @@ scan = refl
 pub no-replies : every isNoReply noReplies ≡ true
 unfolding computed charactersOf guessMark readOrZero decimalAt guessContent guessBehind guess isReply readCall isNoNumber fitsContent isAnswer spellScan spellAll isNoReply noReplies
 no-replies = refl
+
+-- the causes, each with its position
+pub each-drawn : every drawsIt causeCases ≡ true
+unfolding computed causesIn whyClosed whyAfter whyTo isWrong matched position stepChecks stepCall scanCard sameWhy gaveCause drawsIt causeCases
+each-drawn = refl
+
+pub all-cases : every hasCase everyCause ≡ true
+unfolding computed sameWhy causeCases everyCause hasCase
+all-cases = refl
 
 -- the claims on sound cards, sheets and values are not empty: those of the bench are sound
 sounds : Bool

@@ -7,3 +7,4 @@ pub mod Possible
 pub mod Offers
 pub mod Recordings
 pub mod Neighbours
+pub mod Causes

@@ -1,6 +1,6 @@
 -- A message for another card changes nothing but the open message, and what playing draws and leaves is decided by the messages for this
 -- card alone. Assumes nothing.
-use mathlib.Core.Path.{_≡_, sym, ap, _∙_, subst}
+use mathlib.Core.Path.{_≡_, sym, ap, ap₂, _∙_, subst}
 use mathlib.Core.Bool.{true}
 use mathlib.Core.List.{List, [], _∷_}
 use Prim.Native.Nat.{ℕ, _≤_}
@@ -15,12 +15,14 @@ use Rattle.hearing.proofs.Heard.{Messages, heard-start, heard-messages}
 use Rattle.hearing.proofs.Normal.{heard-words, words-valid}
 use Rattle.hearing.proofs.Quiet.{heard-silence}
 use Rattle.act.specs.declared.Setup.{Setup}
-use Rattle.act.specs.Cause.{isFor}
+use Rattle.act.specs.declared.causes.Cause.the-variants.{NotForThisCard}
+use Rattle.act.specs.Cause.{Why, whyOf, isFor}
 use Rattle.act.specs.Act.{ours}
 use Rattle.act.proofs.OnOffer.{ours-none, ours-own, ours-other, ours-ours}
 use Rattle.card.specs.declared.Card.{Card}
 use Rattle.card.specs.Turn.{Turn, withBoth}
 use Rattle.card.specs.Calls.{answered}
+use Rattle.card.proofs.Causes.{why-neighbour}
 use Rattle.card.proofs.Steps.{quiet-answered}
 use Rattle.card.proofs.Turns.{turn-neighbour}
 use Rattle.card.proofs.Plays.{left-ours}
@@ -57,8 +59,8 @@ pub neighbours-ignored : NeighboursIgnored
 neighbours-ignored = record {
   no-notice = λ bench maker c values w out m s v h e t.
       taken bench maker c values s w out v h
-      ∙ ap (λ (x : Turn). answered x values out) (turn-neighbour bench maker c values w m e t)
-      ∙ sym (quiet-answered (withBoth c none (c .offer)) values out);
+      ∙ ap₂ (λ (x : Turn) (y : Why). answered x y values out) (turn-neighbour bench maker c values w m e t) (why-neighbour bench maker c values w m e t)
+      ∙ sym (quiet-answered (withBoth c none (c .offer)) (whyOf NotForThisCard) values out);
   still-cancels = λ bench maker c values w out k m i z g h t l.
       let q = call-leaves bench maker c values w m h t out k i z g l in
       (q .number, q .type-3, q .its);

@@ -38,7 +38,7 @@ use Rattle.act.proofs.OnOffer.{Leaves, act-leaves, set-leaves}
 use Rattle.card.specs.declared.Card.{Card}
 use Rattle.card.specs.Turn.{turn}
 use Rattle.card.specs.Refusals.{soundOffer, noScanRow}
-use Rattle.card.specs.Calls.{After, stepCall}
+use Rattle.card.specs.Calls.{After, WordAnswer, bytesOf, stepCall}
 use Rattle.card.proofs.Turns.{effects, effect-heard, turn-card}
 use Rattle.card.proofs.Steps.{served-step}
 use Rattle.card.proofs.Sounds.{Offerable, offer-parts, leaves-sound, row-no-scan, scan-no-row, no-scan}
@@ -55,10 +55,10 @@ module _ (bench maker : List ℤ) (c : Card) (values : List ℤ) (w : ℕ) (m : 
       ∙ ap (λ (p : Parsed). effects bench maker c values p .offer) h
       ∙ ap (λ (x : Effect). x .offer) (effect-heard bench maker (c .setup) (c .offer) values m)
 
-  pub call-leaves : isFor (c .setup) m ≡ true → (out : List ℕ) (k i : ℕ) (z : ℤ) → stepCall c bench maker values w out .outcome ≡ gave k → stepCall c bench maker values w out .card .offer ≡ Held i z → Leaves bench maker m i z
+  pub call-leaves : isFor (c .setup) m ≡ true → (out : List ℕ) (k i : ℕ) (z : ℤ) → bytesOf (stepCall c bench maker values w out .outcome) ≡ gave k → stepCall c bench maker values w out .card .offer ≡ Held i z → Leaves bench maker m i z
   call-leaves t out k i z g l =
       act-leaves bench maker m (c .setup) (c .offer) values t i z
-      (sym turn-offer ∙ sym (ap (λ (a : After ℕ). a .card .offer) (served-step c bench maker values w out k g .leaves)) ∙ l)
+      (sym turn-offer ∙ sym (ap (λ (a : After WordAnswer). a .card .offer) (served-step c bench maker values w out k g .leaves)) ∙ l)
 
 -- ---- never up
 
@@ -133,9 +133,9 @@ module _ (bench maker : List ℤ) (i : ℕ) (z : ℤ) where
         closes = spelled-closed m is-message;
         is-ours = for-itself m 0 unnamed;
         is-type-3 = refl;
-        gives = ap (λ (a : After ℕ). a .outcome) call;
+        gives = ap (λ (a : After WordAnswer). bytesOf (a .outcome)) call;
         leaves =
-            ap (λ (a : After ℕ). a .card .offer) call
+            ap (λ (a : After WordAnswer). a .card .offer) call
             ∙ turn-offer bench maker its values (withParity star) m (spelled-closed m is-message)
             ∙ set-leaves bench maker (its .setup) Nothing values m (for-itself m 0 unnamed) (row-no-scan bench maker free i r e) r e z refl (o .writable) (p .0)
             ∙ ap (Held i) (cut-own (r .step) (s .step-least) z b (s .step-most) (p .1));

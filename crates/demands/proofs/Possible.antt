@@ -57,7 +57,7 @@ use Rattle.act.proofs.OnOffer.{value-is, four-named, five-named, own-card, answ
 use Rattle.card.specs.declared.Card.{Card}
 use Rattle.card.specs.Turn.{effectOf, turn}
 use Rattle.card.specs.Refusals.{soundScan}
-use Rattle.card.specs.Calls.{After}
+use Rattle.card.specs.Calls.{After, WordAnswer, bytesOf}
 use Rattle.card.proofs.Turns.{effect-heard}
 use Rattle.card.proofs.Steps.{served-step}
 use Rattle.card.proofs.Sounds.{parts-card, setup-sound, nothing-sound, no-scan-row, readable-scan, no-scan}
@@ -292,9 +292,9 @@ drawn-bytes : (bs : List ℕ) (a : Answer) → (d : Drawn bs a) → bs ≡ trave
 drawn-bytes bs a d =
     let t = turn (d .bench) (d .maker) (d .card) (d .values) (d .word) in
     let l = served-step (d .card) (d .bench) (d .maker) (d .values) (d .word) (d .out) (length bs) (d .gives) .leaves in
-    let k : length bs ≡ length (t .reply) = count (sym (d .gives) ∙ ap (λ (x : After ℕ). x .outcome) l) in
+    let k : length bs ≡ length (t .reply) = count (sym (d .gives) ∙ ap (λ (x : After WordAnswer). bytesOf (x .outcome)) l) in
     sym (d .bytes)
-    ∙ ap (λ (x : After ℕ). take (length bs) (x .buffer)) l
+    ∙ ap (λ (x : After WordAnswer). take (length bs) (x .buffer)) l
     ∙ ap (λ (n : ℕ). take n (laid (t .reply) (d .out))) k
     ∙ laid-front (t .reply) (d .out)
     ∙ said-bytes (d .bench) (d .maker) (d .card) (d .values) (d .word) a (d .says)

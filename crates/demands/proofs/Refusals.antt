@@ -21,7 +21,8 @@ use Rattle.reply.specs.Read.{isReply, charactersOf, guess}
 use Rattle.reply.proofs.Reader.{read-is}
 use Rattle.card.specs.Turn.{turn, play}
 use Rattle.card.specs.Refusals.{cardChecks, stepChecks}
-use Rattle.card.specs.Calls.{After, kept, answered, Took, ended}
+use Rattle.card.specs.Cause.{whyTo}
+use Rattle.card.specs.Calls.{After, kept, WordAnswer, answered, Took, ended}
 use Rattle.card.proofs.Steps.{step-is, run-is}
 use Rattle.listing.specs.Line.{line}
 use Rattle.listing.proofs.Calls.{line-is}
@@ -69,7 +70,8 @@ pub demand-1 : Demand1
 demand-1 = record {
   step = λ c bench maker values w out.
       let t = turn bench maker c values w in
-      refuses-decided (λ (s : After ℕ). s .outcome) (λ (s : After ℕ). Kept s c values out) (stepChecks c bench maker values w out) (kept c values out) (answered t values out) (length (t .reply))
+      let y = whyTo bench maker c values w in
+      refuses-decided (λ (s : After WordAnswer). s .outcome) (λ (s : After WordAnswer). Kept s c values out) (stepChecks c bench maker values w out) (kept c values out) (answered t y values out) (record { bytes = length (t .reply); cause = y })
       (λ n. refl) (λ n. (refl, refl, refl)) refl (step-is c bench maker values w out);
   run = λ c bench maker values ws out.
       let p = play bench maker c values (length out) ws in

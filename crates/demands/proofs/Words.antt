@@ -26,7 +26,8 @@ use Rattle.reply.specs.Reply.{longestReply}
 use Rattle.card.specs.declared.Card.{Card}
 use Rattle.card.specs.Turn.{Turn, turn, stored, Played, stopped, after, play}
 use Rattle.card.specs.Refusals.{cardChecks}
-use Rattle.card.specs.Calls.{After, answered, stepCall, Took, ended, runCall}
+use Rattle.card.specs.Cause.{whyTo}
+use Rattle.card.specs.Calls.{After, WordAnswer, bytesOf, answered, stepCall, Took, ended, runCall}
 use Rattle.card.proofs.Turns.{turn-card}
 use Rattle.card.proofs.Steps.{all-sound, step-served, served-step, run-served}
 use Rattle.card.proofs.Sounds.{card-stays, offer-stays, values-stay}
@@ -58,7 +59,7 @@ module _ (bench maker : List ℤ) (c : Card) (values : List ℤ) (s : Sound benc
   passed ws v = all-sound c bench maker values ws (s .card-sound) (s .sheets-sound) (s .offer-sound) (s .scan-sound) (s .values-sound) v
 
   -- a single word that is served
-  pub taken : (w : ℕ) (out : List ℕ) → w ≤ 256 → longestReply ≤ length out → stepCall c bench maker values w out ≡ answered (turn bench maker c values w) values out
+  pub taken : (w : ℕ) (out : List ℕ) → w ≤ 256 → longestReply ≤ length out → stepCall c bench maker values w out ≡ answered (turn bench maker c values w) (whyTo bench maker c values w) values out
   taken w out v h = step-served c bench maker values w out (passed (w ∷ []) (word-valid w v)) h
 
   -- what it leaves is sound
@@ -117,17 +118,17 @@ module _ (bench maker : List ℤ) (c : Card) (values : List ℤ) (w : ℕ) (ws o
       ∙ none-taken bench maker c values s out
 
   -- what the single word's call has left, in place of the turn
-  module _ (room : List ℕ) (n : ℕ) (e : stepCall c bench maker values w room .outcome ≡ gave n) where
-    abbrev Takes : After ℕ → Type 0
+  module _ (room : List ℕ) (n : ℕ) (e : bytesOf (stepCall c bench maker values w room .outcome) ≡ gave n) where
+    abbrev Takes : After WordAnswer → Type 0
     Takes a =
-        a .outcome ≡ gave n → n ≤ length out
+        bytesOf (a .outcome) ≡ gave n → n ≤ length out
         → let r : After Took = runCall (a .card) bench maker (a .values) ws (drop n out) in
         runCall c bench maker values (w ∷ ws) out ≡ record { card = r .card; outcome = oneMore n (r .outcome); values = r .values; buffer = take n (a .buffer) ++ r .buffer }
 
     count : (k : ℕ) → gave k ≡ gave n → k ≡ n
     count k g = cc
 
-    by-turn : Takes (answered t values room)
+    by-turn : Takes (answered t (whyTo bench maker c values w) values room)
     by-turn g =
         subst (λ (k : ℕ). k ≤ length out → runCall c bench maker values (w ∷ ws) out
         ≡ let r : After Took = runCall (t .card) bench maker (stored values (t .store)) ws (drop k out) in
@@ -140,7 +141,7 @@ module _ (bench maker : List ℤ) (c : Card) (values : List ℤ) (w : ℕ) (ws o
 
     pub word-stops : length out < n → runCall c bench maker values (w ∷ ws) out ≡ takesNone c values out
     word-stops h =
-        let k = count (length (t .reply)) (sym (ap (λ (a : After ℕ). a .outcome) (served-step c bench maker values w room n e .leaves)) ∙ e) in
+        let k = count (length (t .reply)) (sym (ap (λ (a : After WordAnswer). bytesOf (a .outcome)) (served-step c bench maker values w room n e .leaves)) ∙ e) in
         run-stops (omega arith)
 
 pub run-steps : RunSteps

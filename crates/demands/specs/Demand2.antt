@@ -36,7 +36,7 @@ use Rattle.act.specs.declared.Offer.the-variants.{Nothing, Held}
 use Rattle.act.specs.declared.Said.the-variants.{Silence, Reply}
 use Rattle.card.specs.declared.Card.{Card}
 use Rattle.card.specs.Refusals.{soundOffer, noScanRow}
-use Rattle.card.specs.Calls.{After, stepCall, Took, runCall}
+use Rattle.card.specs.Calls.{After, WordAnswer, bytesOf, stepCall, Took, runCall}
 use Rattle.demands.specs.Terms.{Sound, saidTo}
 
 -- ---- the writer and the reader
@@ -50,15 +50,15 @@ pub record WriterHeard : Type 0 where
 
 -- a single word's call, with all that it leaves
 module _ (bench maker : List ℤ) (c : Card) (values : List ℤ) (w : ℕ) (out : List ℕ) where
-  abbrev pub its : After ℕ
+  abbrev pub its : After WordAnswer
   its = stepCall c bench maker values w out
 
 -- "our reader reads every reply of the card as the answer it gave"; silence writes nothing
 pub record ReplyRead : Type 0 where
   pub reads : (bench maker : List ℤ) (c : Card) (values : List ℤ) (w : ℕ) (out : List ℕ) (a : Answer) → Sound bench maker c values → w ≤ 256 → longestReply ≤ length out → saidTo bench maker c values w ≡ Reply a
-      → (its bench maker c values w out .outcome ≡ gave (length (spellAnswer a))) × (readCall (take (length (spellAnswer a)) (its bench maker c values w out .buffer)) ≡ gave a)
+      → (bytesOf (its bench maker c values w out .outcome) ≡ gave (length (spellAnswer a))) × (readCall (take (length (spellAnswer a)) (its bench maker c values w out .buffer)) ≡ gave a)
   pub silent : (bench maker : List ℤ) (c : Card) (values : List ℤ) (w : ℕ) (out : List ℕ) → Sound bench maker c values → w ≤ 256 → longestReply ≤ length out → saidTo bench maker c values w ≡ Silence
-      → (its bench maker c values w out .outcome ≡ gave 0) × (its bench maker c values w out .buffer ≡ out)
+      → (bytesOf (its bench maker c values w out .outcome) ≡ gave 0) × (its bench maker c values w out .buffer ≡ out)
 
 -- a sound card, sheets and values, and a word to which the call replies with these bytes, as this answer
 pub record Drawn (bs : List ℕ) (a : Answer) : Type 0 where
@@ -74,7 +74,7 @@ pub record Drawn (bs : List ℕ) (a : Answer) : Type 0 where
   pub names-room : length (card .setup .scan) ≡ mostNamed
   pub valid : word ≤ 256
   pub says : saidTo bench maker card values word ≡ Reply a
-  pub gives : its bench maker card values word out .outcome ≡ gave (length bs)
+  pub gives : bytesOf (its bench maker card values word out .outcome) ≡ gave (length bs)
   pub bytes : take (length bs) (its bench maker card values word out .buffer) ≡ bs
 
 -- number 6: the reader takes exactly the bytes that some sound card replies with, and as the answer that it gave
@@ -102,7 +102,7 @@ pub record LeftBy (bench maker : List ℤ) (o : Offer) : Type 0 where
   pub closes : hear (card .pending) word .message ≡ Heard message
   pub is-ours : isFor (card .setup) message ≡ true
   pub is-type-3 : message .body ≡ Set number
-  pub gives : its bench maker card values word out .outcome ≡ gave bytes
+  pub gives : bytesOf (its bench maker card values word out .outcome) ≡ gave bytes
   pub leaves : its bench maker card values word out .card .offer ≡ o
 
 -- number 1: under sound sheets without a row for `]` an offer is sound exactly when a Type 3 can leave it; with such a row no card is sound
@@ -118,7 +118,7 @@ pub record NotAbove (n z : ℤ) (r : Row) : Type 0 where
 
 -- for a message for this card; one for another leaves the offer that was there, whatever its number
 pub record NeverUp : Type 0 where
-  pub never-up : (bench maker : List ℤ) (c : Card) (values : List ℤ) (w : ℕ) (out : List ℕ) (k : ℕ) (m : Message) (x : Decimal) (z : ℤ) (r : Row) → its bench maker c values w out .outcome ≡ gave k
+  pub never-up : (bench maker : List ℤ) (c : Card) (values : List ℤ) (w : ℕ) (out : List ℕ) (k : ℕ) (m : Message) (x : Decimal) (z : ℤ) (r : Row) → bytesOf (its bench maker c values w out .outcome) ≡ gave k
       → hear (c .pending) w .message ≡ Heard m → isFor (c .setup) m ≡ true → m .body ≡ Set x → entryIn bench maker (m .identifier) ≡ Found r → its bench maker c values w out .card .offer ≡ Held (m .identifier) z → NotAbove (x .number) z r
 
 -- ---- words
@@ -141,11 +141,11 @@ takesNone c values out = record { card = c; outcome = gave (record { words = 0; 
 -- for any reply, and then the run of the other words from what that call left, in what is left of the buffer
 pub record RunSteps : Type 0 where
   pub ends : (bench maker : List ℤ) (c : Card) (values : List ℤ) (out : List ℕ) → Sound bench maker c values → runCall c bench maker values [] out ≡ takesNone c values out
-  pub takes : (bench maker : List ℤ) (c : Card) (values : List ℤ) (w : ℕ) (ws out room : List ℕ) (n : ℕ) → Sound bench maker c values → validWords (w ∷ ws) ≡ true → its bench maker c values w room .outcome ≡ gave n → n ≤ length out
-      → let s : After ℕ = its bench maker c values w room in
+  pub takes : (bench maker : List ℤ) (c : Card) (values : List ℤ) (w : ℕ) (ws out room : List ℕ) (n : ℕ) → Sound bench maker c values → validWords (w ∷ ws) ≡ true → bytesOf (its bench maker c values w room .outcome) ≡ gave n → n ≤ length out
+      → let s : After WordAnswer = its bench maker c values w room in
       let r : After Took = runCall (s .card) bench maker (s .values) ws (drop n out) in
       runCall c bench maker values (w ∷ ws) out ≡ record { card = r .card; outcome = oneMore n (r .outcome); values = r .values; buffer = take n (s .buffer) ++ r .buffer }
-  pub stops : (bench maker : List ℤ) (c : Card) (values : List ℤ) (w : ℕ) (ws out room : List ℕ) (n : ℕ) → Sound bench maker c values → validWords (w ∷ ws) ≡ true → its bench maker c values w room .outcome ≡ gave n → length out < n
+  pub stops : (bench maker : List ℤ) (c : Card) (values : List ℤ) (w : ℕ) (ws out room : List ℕ) (n : ℕ) → Sound bench maker c values → validWords (w ∷ ws) ≡ true → bytesOf (its bench maker c values w room .outcome) ≡ gave n → length out < n
       → runCall c bench maker values (w ∷ ws) out ≡ takesNone c values out
 
 -- all of them

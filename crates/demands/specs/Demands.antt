@@ -1,4 +1,4 @@
--- The three demands, the neighbours and the bench cases, all together: what the one function of this crate promises.
+-- The three demands, the neighbours, the causes and the bench cases, all together: what the one function of this crate promises.
 use mathlib.Core.Path.{_≡_}
 use mathlib.Core.Bool.{true}
 use lib.ListN.{length}
@@ -11,12 +11,14 @@ use Rattle.demands.specs.Demand1.{Demand1}
 use Rattle.demands.specs.Demand2.{Demand2}
 use Rattle.demands.specs.Demand3.{Demand3}
 use Rattle.demands.specs.Neighbours.{NeighboursIgnored}
+use Rattle.demands.specs.Causes.{Causes}
 
 pub record Demands : Type 0 where
   pub demand-1 : Demand1
   pub demand-2 : Demand2
   pub demand-3 : Demand3
   pub neighbours-ignored : NeighboursIgnored
+  pub causes : Causes
   -- cases a to l, and the second table
   pub bench : every passes benchCases ≡ true
   pub more : every passes moreCases ≡ true

@@ -16,10 +16,11 @@ use Rattle.hearing.specs.Hearing.{none, hear, heardFrom}
 use Rattle.hearing.specs.Normal.{wordsOf}
 use Rattle.reply.specs.Reply.{longestReply}
 use Rattle.act.specs.declared.Offer.the-variants.{Held}
-use Rattle.act.specs.Cause.{isFor}
+use Rattle.act.specs.declared.causes.Cause.the-variants.{NotForThisCard}
+use Rattle.act.specs.Cause.{whyOf, isFor}
 use Rattle.act.specs.Act.{ours}
 use Rattle.card.specs.declared.Card.{Card}
-use Rattle.card.specs.Calls.{stepCall}
+use Rattle.card.specs.Calls.{bytesOf, stepCall}
 use Rattle.demands.specs.Terms.{Sound, replies}
 use Rattle.demands.specs.Demand3.{PlayedAlike}
 
@@ -35,9 +36,9 @@ pub record NeighboursIgnored : Type 0 where
   -- a word that closes a message for another card is served with silence, and all stays but the message it closed
   pub no-notice : (bench maker : List ℤ) (c : Card) (values : List ℤ) (w : ℕ) (out : List ℕ) (m : Message) → Sound bench maker c values → w ≤ 256 → longestReply ≤ length out
       → hear (c .pending) w .message ≡ Heard m → isFor (c .setup) m ≡ false
-      → stepCall c bench maker values w out ≡ record { card = record { setup = c .setup; pending = none; offer = c .offer }; outcome = gave 0; values = values; buffer = out }
+      → stepCall c bench maker values w out ≡ record { card = record { setup = c .setup; pending = none; offer = c .offer }; outcome = gave (record { bytes = 0; cause = whyOf NotForThisCard }); values = values; buffer = out }
   -- "A message for this card still cancels as before.": what is on offer behind one is its own, of a Type 3 for that identifier
-  pub still-cancels : (bench maker : List ℤ) (c : Card) (values : List ℤ) (w : ℕ) (out : List ℕ) (k : ℕ) (m : Message) (i : ℕ) (z : ℤ) → stepCall c bench maker values w out .outcome ≡ gave k
+  pub still-cancels : (bench maker : List ℤ) (c : Card) (values : List ℤ) (w : ℕ) (out : List ℕ) (k : ℕ) (m : Message) (i : ℕ) (z : ℤ) → bytesOf (stepCall c bench maker values w out .outcome) ≡ gave k
       → hear (c .pending) w .message ≡ Heard m → isFor (c .setup) m ≡ true → stepCall c bench maker values w out .card .offer ≡ Held i z → (x : Decimal) × (m .body ≡ Set x) × (m .identifier ≡ i)
   -- recordings with the same messages for this card, whatever else is heard in them, draw the same replies and leave the same values and offer
   pub ours-decide : (bench maker : List ℤ) (c : Card) (values : List ℤ) (ws xs out out′ : List ℕ) → Sound bench maker c values → validWords ws ≡ true → validWords xs ≡ true → oursIn c ws ≡ oursIn c xs

@@ -1,17 +1,18 @@
 -- A word leaves a sound open message sound. And the characters of a message before its `*` are a sound open message, which the `*`
 -- closes: it is heard as that message. Assumes nothing.
 use mathlib.Core.Path.{_≡_, refl, sym, ap, _∙_}
-use mathlib.Core.Bool.{true, _||_}
+use mathlib.Core.Bool.{true, _||_, false≢true}
 use mathlib.Core.List.{List, [], _∷_, _++_}
-use Prim.Native.Nat.{ℕ, suc, _+_, _<_, _≤_}
+use Prim.Native.Nat.{ℕ, zero, suc, _+_, _<_, _≤_}
 use native.Mathlib.Numerals.{add-one}
+use native.Mathlib.Nat.{min-le-left}
 use native.Mathlib.Omega.{arith}
 use borrow.Author.Tests.{ltb-true, leb-true, le-leb, eqb-false, ne-eqb, lt-ltb}
 use lib.Dec.{ltb, eqb, lit≤}
-use lib.ListN.{length, getD, set, take, drop, replicate, length-append, length-drop}
+use lib.ListN.{length, getD, set, take, drop, replicate, length-append, length-drop, length-take}
 use lib.Seq.{drop-set-lt, getD-set-other, take-append-seam, drop-append-seam}
 use Rattle.refusal.specs.Lists.{every}
-use Rattle.refusal.proofs.Logic.{ands, and-both, is-not, choice}
+use Rattle.refusal.proofs.Logic.{ands, and-both, not-is, is-not, choice, by-test}
 use Rattle.refusal.proofs.Lists.{every-none, every-first, every-set, every-drop, every-replicate}
 use Rattle.wire.specs.declared.Received.{Received}
 use Rattle.wire.specs.declared.Received.the-variants.{Character, Nothing}
@@ -27,6 +28,7 @@ use Rattle.message.proofs.Reading.{parse-spell}
 use Rattle.message.proofs.Spelling.{plain-rest, open-first, open-length}
 use Rattle.hearing.specs.declared.Pending.{Pending}
 use Rattle.hearing.specs.declared.Action.{Action}
+use Rattle.hearing.specs.declared.Action.the-variants.{Close}
 use Rattle.hearing.specs.declared.Hearing.{Hearing}
 use Rattle.hearing.specs.Hearing.{most, none, added, openOf, opening, continuing, actionOf, perform, hear}
 use Rattle.hearing.specs.Sound.{plainChar, plain, zeros, soundPending}
@@ -51,6 +53,51 @@ parts-pending p q = and-both (and-both (le-leb (p .len) most (q .short)) (and-bo
 plain-is : (c : ℕ) → PlainChar c → plainChar c ≡ true
 unfolding plainChar
 plain-is c p = and-both (lt-ltb c 128 (p .small)) (is-not (p .no-star))
+
+plain-back : (c : ℕ) → plainChar c ≡ true → PlainChar c
+unfolding plainChar
+plain-back c e = record { small = ltb-true c 128 (search ands); no-star = not-is {a = eqb c star} (search ands) }
+
+every-plain : (cs : List ℕ) → every plainChar cs ≡ true → Plain cs
+unfolding every
+every-plain [] e = tt
+every-plain (c ∷ cs) e = (plain-back c (search ands), every-plain cs (search ands))
+
+-- what is open are seven-bit characters without `*`, at most ten
+pub open-plain : (p : Pending) → soundPending p ≡ true → Plain (openOf p)
+unfolding openOf
+open-plain p e = every-plain (take (p .len) (p .chars)) (pending-parts p e .is-plain)
+
+pub open-most : (p : Pending) → soundPending p ≡ true → length (openOf p) ≤ most
+unfolding openOf
+open-most p e = omega (arith, pending-parts p e .short, length-take (p .len) (p .chars), min-le-left (p .len) (length (p .chars)))
+
+-- and what a word closes begins with a letter
+pub record Begins (xs : List ℕ) : Type 0 where
+  pub letter : ℕ
+  pub rest : List ℕ
+  pub is : xs ≡ letter ∷ rest
+  pub is-letter : isLetter letter ≡ true
+
+begins : (n : ℕ) (cs : List ℕ) → (n ≡ 0 → ⊥) → isLetter (getD cs 0 0) ≡ true → Begins (take n cs)
+unfolding isLetter
+begins zero cs f e = absurd (f refl)
+begins (suc n) [] f e = absurd (false≢true e)
+begins (suc n) (c ∷ cs) f e = record { letter = c; rest = take n cs; is = refl; is-letter = e }
+
+closes-none : (r : Received) → opening r ≡ Close → ⊥
+unfolding opening
+closes-none (Character c) =
+    choice (λ (a : Action). a ≡ Close → ⊥) (isLetter c)
+    (λ t e. let z : _≡_ {A = ℕ} 0 1 = cc in omega arith) (λ t e. let z : _≡_ {A = ℕ} 0 1 = cc in omega arith)
+closes-none Nothing = λ e. let z : _≡_ {A = ℕ} 0 1 = cc in omega arith
+
+pub open-begins : (p : Pending) (w : ℕ) → soundPending p ≡ true → actionOf p w ≡ Close → Begins (openOf p)
+unfolding openOf actionOf
+open-begins p w e a =
+    by-test (eqb (p .len) 0)
+    (λ t. absurd (closes-none (received w) (sym (rw t) ∙ a)))
+    (λ t. begins (p .len) (p .chars) (eqb-false (p .len) 0 t) (sym (rw t) ∙ pending-parts p e .first))
 
 -- ---- characters in an open message
 

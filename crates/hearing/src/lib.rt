@@ -11,6 +11,7 @@ ghost use Rattle.hearing.specs.Inner.{nextOf, charsOf, haltOf, toClose, 
 ghost use Rattle.hearing.specs.Sound.{plain, zeros, soundPending};
 ghost use Rattle.hearing.specs.Normal.{normalCall};
 ghost use Rattle.message.specs.Prefix.{parse};
+ghost use Rattle.message.specs.Position.{position};
 use message::Parsed;
 use refusal::Refusal;
 use refusal::Written;
@@ -71,6 +72,14 @@ impl Pending {
     {
         let chars = self.chars;
         closed(&chars, self.len)
+    }
+
+    // Where the open characters fail, when they are closed and not heard.
+    pub fn position(self) -> u8
+        ensures { λ r. ⌜ r ≡ position (openOf self) ⌝ }
+    {
+        let chars = self.chars;
+        position_in(&chars, self.len) as u8
     }
 
     // What a word does.
@@ -309,6 +318,16 @@ pub fn closed(chars: &[u8], len: usize) -> Parsed
         return message::parse(chars);
     }
     message::parse(&chars[..len])
+}
+
+// Where the first so many characters fail, when they are closed and not heard.
+fn position_in(chars: &[u8], len: usize) -> usize
+    ensures { λ r. ⌜ r ≡ position (take len (now (chars .entry))) ⌝ }
+{
+    if len < chars.len() {
+        return message::recogniser::position(&chars[..len]);
+    }
+    message::recogniser::position(chars)
 }
 
 // The normal form of a recording.

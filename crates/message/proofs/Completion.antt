@@ -23,12 +23,12 @@ use Rattle.message.specs.declared.Prefix.{Prefix}
 use Rattle.message.specs.declared.Prefix.the-variants.{Start, Letter, Digit, Address, Identifier, Digits, Complete, Wrong}
 use Rattle.message.specs.Message.{star, question, isLetter, isAddress, isIdentifier}
 use Rattle.message.specs.Prefix.{message, extendIdentifier, extendData, extendBody, extend, extendAll, finish, parse}
-use Rattle.message.specs.Position.{isWrong, accepted, position, WellFormed, Possible, Impossible}
+use Rattle.message.specs.Position.{isWrong, matched, position, WellFormed, Possible, Impossible}
 use Rattle.message.proofs.Messages.{letter-is, address-is, Plain}
 use Rattle.message.proofs.Reading.{Known, known-scan, extend-letter, extend-first, extend-second, extend-identifier-2, all-data}
 use Rattle.message.proofs.Places.{leads, wrong-stays, wrong-count}
 use Rattle.message.proofs.Short.{unheard}
-use Rattle.message.proofs.Accepted.{wrong-is, accepted-most, accepted-stays, accepted-greatest}
+use Rattle.message.proofs.Matched.{wrong-is, matched-most, matched-stays, matched-greatest}
 
 -- ---- a state is completed
 
@@ -127,7 +127,7 @@ possible-right xs p w =
     heard-right (extendAll Start xs) (r .0) (w .1 .message)
     (ap finish (sym (all-append Start xs (r .0)) ∙ ap (extendAll Start) (sym (r .1))) ∙ w .1 .heard)
 
--- a `*` is accepted nowhere
+-- a `*` is matched nowhere
 star-wrong : (s : Prefix) → extend s star ≡ Wrong
 unfolding extend extendIdentifier extendBody extendData readNext isLetter isDigit isIdentifier
 star-wrong Start = refl
@@ -197,23 +197,23 @@ module _ (cs : List ℕ) (plain : Plain cs) where
   pub position-is : parse cs ≡ Unheard → Impossible (cs ++ (star ∷ [])) (position cs)
   unfolding position isWrong
   position-is e = record {
-    inside = omega (arith, accepted-most Start cs, length-append cs (star ∷ []));
+    inside = omega (arith, matched-most Start cs, length-append cs (star ∷ []));
     before =
-        subst Possible (sym (take-append-le p cs (star ∷ []) (accepted-most Start cs)))
-        (right-possible (take p cs) (accepted-stays Start cs refl));
+        subst Possible (sym (take-append-le p cs (star ∷ []) (matched-most Start cs)))
+        (right-possible (take p cs) (matched-stays Start cs refl));
     behind = λ w.
         by-test (ltb p (length cs))
         (λ t.
         let h = ltb-true p (length cs) t in
         let v = subst Possible (take-append-le (suc p) cs (star ∷ []) h) w in
-        omega (arith, accepted-greatest Start cs (suc p) h (possible-right (take (suc p) cs) (plain-take (suc p) cs plain) v)))
+        omega (arith, matched-greatest Start cs (suc p) h (possible-right (take (suc p) cs) (plain-take (suc p) cs plain) v)))
         (λ t.
         let all = take-all (suc p) (cs ++ (star ∷ [])) (omega (arith, ltb-false p (length cs) t, length-append cs (star ∷ []))) in
         unheard (sym e ∙ possible-heard cs plain (subst Possible all w) .1));
   }
     where
       p : ℕ
-      p = accepted Start cs
+      p = matched Start cs
 
   well-formed : (m : Message) → parse cs ≡ Heard m → WellFormed (cs ++ (star ∷ []))
   well-formed m e = record { characters = cs; message = m; closed = refl; heard = e }
@@ -233,21 +233,21 @@ module _ (cs : List ℕ) (plain : Plain cs) where
 -- ---- its least and its greatest
 
 pub position-least : (c : ℕ) (cs : List ℕ) → isLetter c ≡ true → 1 ≤ position (c ∷ cs)
-unfolding position accepted isWrong
+unfolding position matched isWrong
 position-least c cs e = rw (extend-letter c e) (omega arith)
 
 -- at most ten characters are ever open
 pub position-most : (cs : List ℕ) → length cs ≤ 10 → parse cs ≡ Unheard → position cs ≤ 9
 unfolding position parse extendAll isWrong
 position-most cs h e =
-    let p = accepted Start cs in
+    let p = matched Start cs in
     by-test (ltb p (length cs))
     (λ t. omega (arith, ltb-true p (length cs) t))
     (λ t.
     let all = take-all p cs (ltb-false p (length cs) t) in
-    let right = subst (λ (xs : List ℕ). isWrong (extendAll Start xs) ≡ false) all (accepted-stays Start cs refl) in
+    let right = subst (λ (xs : List ℕ). isWrong (extendAll Start xs) ≡ false) all (matched-stays Start cs refl) in
     let r = completion (extendAll Start cs) (known-scan Start cs tt) right in
-    omega (arith, accepted-most Start cs, open-most (r .rest) (r .made) (r .heard)))
+    omega (arith, matched-most Start cs, open-most (r .rest) (r .made) (r .heard)))
   where
     -- a message is longer
     open-most : (rest : List ℕ) (m : Message) → leads (extendAll Start cs) rest ≡ Heard m → length cs ≤ 9

@@ -17,7 +17,7 @@ use Rattle.message.specs.declared.Body.the-variants.{Query, Set}
 use Rattle.message.specs.declared.Parsed.the-variants.{Heard}
 use Rattle.message.specs.Message.{star, isLetter, isAddress, isIdentifier}
 use Rattle.message.specs.Prefix.{message, extendIdentifier, extendAddress, extendData, extendBody, extend, extendAll, finish, parse}
-use Rattle.message.specs.Position.{isWrong, accepted, position}
+use Rattle.message.specs.Position.{isWrong, matched, position}
 use Rattle.message.specs.Spell.{spellAddress}
 use Rattle.message.proofs.Messages.{Plain}
 
@@ -69,5 +69,5 @@ failsAt x = eqb (position (chars (x .0))) (x .1)
 pub positions : every failsAt (
     ("L0??", 2) ∷ ("L00M?", 2) ∷ ("L100M?", 3) ∷ ("L", 1) ∷ ("L7", 2) ∷ ("L7M", 3) ∷ ("L7?+", 3) ∷ ("L7??x", 4) ∷ ("L8M!", 3)
     ∷ ("L7m#1234", 8) ∷ ("L7m#00304", 8) ∷ ("L7m#000001", 9) ∷ []) ≡ true
-unfolding every isDigit digitOf decode readNext isLetter isAddress isIdentifier extendIdentifier extendAddress extendData extendBody extend isWrong accepted position
+unfolding every isDigit digitOf decode readNext isLetter isAddress isIdentifier extendIdentifier extendAddress extendData extendBody extend isWrong matched position
 positions = refl

@@ -4,5 +4,5 @@ pub mod Places
 pub mod Spelling
 pub mod Short
 pub mod Examples
-pub mod Accepted
+pub mod Matched
 pub mod Completion

@@ -1,4 +1,4 @@
--- Where the parts of a message stand. The recogniser goes on from the readNext character to the rest; what is wrong stays wrong, a
+-- Where the parts of a message stand. The recogniser goes on from the next character to the rest; what is wrong stays wrong, a
 -- whole message has nothing behind it, and only five characters are data. Assumes nothing.
 use mathlib.Core.Path.{_≡_, refl, sym, ap, _∙_}
 use mathlib.Core.Bool.{true, false, not, _&&_, false≢true}
@@ -58,7 +58,7 @@ unfolding extendAll extend
 nothing-behind m [] h = absurd (omega arith)
 nothing-behind m (c ∷ cs) h = wrong-stays cs
 
--- past the readNext two characters
+-- past the next two characters
 pub past-two : (s : Prefix) (cs : List ℕ) → 2 ≤ length cs → leads s cs ≡ leads (extend (extend s (getD cs 0 0)) (getD cs 1 0)) (drop 2 cs)
 past-two s cs h = ap finish (all-more s cs 0 (omega arith) ∙ all-more (extend s (getD cs 0 0)) cs 1 (omega arith))
 

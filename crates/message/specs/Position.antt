@@ -23,14 +23,15 @@ isWrong (Complete m) = false
 isWrong Wrong = true
 
 -- how many of these characters can stand behind this state, one after the other
-unfoldable pub accepted : Prefix → List ℕ → ℕ
-accepted s [] = 0
-accepted s (c ∷ cs) = cond (isWrong (extend s c)) 0 (suc (accepted (extend s c) cs))
+unfoldable pub matched : Prefix → List ℕ → ℕ
+matched s [] = 0
+matched s (c ∷ cs) = cond (isWrong (extend s c)) 0 (suc (matched (extend s c) cs))
 
 -- document 02, ticket 4: "the position in it, from 0, of the first character that no well-formed message could have there after those
--- before it, the `*` counting as a character". cs are the characters before the `*`, whose own place is `length cs`
+-- before it, the `*` counting as a character". cs are the characters before the `*` of a message that
+-- isn't heard; where all of them can stand, it is the `*`, whose place is `length cs`
 unfoldable pub position : List ℕ → ℕ
-position cs = accepted Start cs
+position cs = matched Start cs
 
 -- ---- the position by well-formed messages alone
 

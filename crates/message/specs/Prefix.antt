@@ -1,5 +1,5 @@
--- Reading the characters before a `*`, from left to right. Each state but `Wrong` is the start of a well-formed message, so the
--- first step to `Wrong` is at the first character that no well-formed message could have there.
+-- Reading the characters before a `*`, from left to right. Each state but `Wrong` that characters lead to is the start of a
+-- well-formed message, so the first step to `Wrong` is at the first character that no well-formed message could have there.
 use mathlib.Core.Bool.{cond, _&&_}
 use mathlib.Core.List.{List, [], _∷_}
 use Prim.Native.Nat.{ℕ, _+_, _*_}

@@ -103,7 +103,7 @@ fn extend_body(letter: u8, address: u8, identifier: u8, c: u8) -> Prefix
 }
 
 // One character more.
-pub fn extend(prefix: Prefix, c: u8) -> Prefix
+fn extend(prefix: Prefix, c: u8) -> Prefix
     ensures { λ r. ⌜ r ≡ extend prefix c ⌝ }
 {
     match prefix {
@@ -153,7 +153,8 @@ fn is_wrong(prefix: Prefix) -> bool
     }
 }
 
-// The place of the first character, of these and the `*` behind them, that no well-formed message could have there after those before it.
+// In a message that isn't well formed, the place of the first character, of these and the `*` behind them, that no well-formed message could
+// have there after those before it.
 pub fn position(characters: &[u8]) -> usize
     ensures { λ r. ⌜ r ≡ position (now (characters .entry)) ⌝ }
 {

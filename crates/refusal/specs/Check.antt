@@ -1,4 +1,5 @@
--- The tests of a call in the paper's order, and the first of them that holds.
+-- Tests in the paper's order, and the first of them that holds: those of a call, by the number of its refusal; and those of a message, by the
+-- code of its cause (`act/specs/Cause`).
 use mathlib.Core.Path.{_≡_}
 use mathlib.Core.Bool.{Bool, true, false, cond}
 use mathlib.Core.List.{List, [], _∷_}
@@ -19,7 +20,7 @@ unfoldable pub first : List Check → Outcome (Unit {0})
 first [] = gave tt
 first (c ∷ cs) = cond (c .holds) (refused (c .number)) (first cs)
 
--- what a call comes to by its tests: everything as it was, with the number, or what it serves
+-- what it comes to by the tests: by the number of the first that holds, or what is served where none does
 abbrev pub decided : {A : Type 0} → Outcome (Unit {0}) → (ℕ → A) → A → A
 decided (refused n) keeps serves = keeps n
 decided (gave x) keeps serves = serves

@@ -95,6 +95,11 @@ answer-sum a =
 pub answer-length : (a : Answer) → length (spellAnswer a) ≤ longestReply
 answer-length a = omega (arith, answer-sum a, front-length (a .letter) (a .address) (a .identifier), content-length (a .content))
 
+-- and it has at least one
+pub answer-some : (a : Answer) → 0 < length (spellAnswer a)
+unfolding spellAnswer
+answer-some a = omega arith
+
 -- ---- part by part into a buffer
 
 -- these characters stand in the buffer from a place on, as they travel; the next place is behind them

@@ -123,10 +123,12 @@ mod linked {
         let World { card, bench, maker, values, .. } = &input.world;
         let (mut card, mut values) = (card.clone(), values.clone());
         let call = if side == Side::Proved { abi::step } else { calls::step };
-        let mut out = [0; 33];
+        let (mut out, mut cause) = ([0; 33], [0; 2]);
         let mut sum = 0;
         for &word in &input.words {
-            sum += call(&mut card, bench, maker, &mut values, word, &mut out);
+            sum += call(&mut card, bench, maker, &mut values, word, &mut out, &mut cause);
+            // The causes are compared too.
+            sum += i64::from(16 * cause[0] + cause[1]) << 32;
         }
         sum as u64
     }

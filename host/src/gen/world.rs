@@ -135,6 +135,19 @@ impl World {
         world
     }
 
+    /// Gives an identifier other than `]` these rows in place of its own, and a value that the row which holds
+    /// admits. There is room for them in sheets of fewer than 64 rows.
+    pub fn set_rows(&mut self, identifier: u8, bench: Option<Row>, maker: Option<Row>, value: i32) {
+        for (sheet, row) in [(&mut self.bench, bench), (&mut self.maker, maker)] {
+            let mut rows: Vec<Row> = rows_of(sheet).filter(|row| row[0] != i32::from(identifier)).collect();
+            rows.extend(row);
+            rows.sort_unstable();
+            *sheet = rows.concat();
+        }
+        self.rows = holding(&self.bench, &self.maker);
+        self.values[usize::from(identifier)] = value;
+    }
+
     /// Names so many identifiers that can be read, or none where there is no such row; anything behind.
     pub fn scan(&mut self, rng: &mut Rng, named: usize) {
         let rows: Vec<Row> = self.rows.iter().copied().filter(|row| row[1] != 3).collect();

@@ -14,6 +14,8 @@ use super::{listing, normal, reply, sheet, Refusal};
 pub const CARD: usize = 22;
 /// Letter, address, identifier, outcome, count of numbers, five pairs of a number and its decimals.
 pub const ANSWER: usize = 15;
+/// Code and position.
+pub const CAUSE: usize = 2;
 
 /// What the boundary's reader gives back when it isn't refused: the count of numbers written.
 pub const READ: i64 = ANSWER as i64;
@@ -88,7 +90,8 @@ fn put_back(row: &mut [i32], card: &Card) {
     row[CHANGED].copy_from_slice(&row_of(card)[CHANGED]);
 }
 
-/// Minus the number, or the count of bytes; 0 is silence.
+/// Minus the number, or the count of bytes, 0 being silence, with the cause's code in `cause[0]` and its
+/// position in `cause[1]`. A cause shorter than two is number 5, after all the others.
 pub fn step(
     card: &mut [i32],
     bench: &[i32],
@@ -96,15 +99,19 @@ pub fn step(
     values: &mut [i32],
     word: u16,
     out: &mut [u8],
+    cause: &mut [i32],
 ) -> i64 {
     let Some(mut inner) = card_of(card) else {
         return refused(Refusal::Card);
     };
+    // The refusals before it come first; with no room for the reply the call is refused and changes nothing.
+    let out: &mut [u8] = if cause.len() < CAUSE { &mut [] } else { out };
     let result = card::step(&mut inner, bench, maker, values, word, out);
-    if result.is_ok() {
+    if let Ok(stepped) = result {
         put_back(card, &inner);
+        cause[..CAUSE].copy_from_slice(&stepped.cause.numbers());
     }
-    counted(result)
+    counted(result.map(|stepped| stepped.written))
 }
 
 /// Minus the number, or 0 with `counts[0]` words taken and `counts[1]` bytes written. Counts

@@ -1,5 +1,6 @@
 //! What the card does.
 
+use super::cause::Cause;
 use super::hearing::Open;
 use super::message::{is_letter, Data, Kind, Message, Spelled};
 use super::parity::{all_words, SILENCE};
@@ -24,6 +25,13 @@ pub struct Card {
     pub open: Open,
     pub offer: Option<Offer>,
     pub scan: Scan,
+}
+
+/// Bytes written, and why there was `N` or silence.
+#[derive(Clone, Copy, Debug, PartialEq, Eq)]
+pub struct Stepped {
+    pub written: usize,
+    pub cause: Cause,
 }
 
 /// Words taken and bytes written.
@@ -209,7 +217,7 @@ fn spell_reply(
     spelled
 }
 
-/// Takes one word. Gives the bytes replied, 0 being silence. Refused with 1, 2, 1, 3, 4, 5.
+/// Takes one word. Gives the bytes replied, 0 being silence, and the cause. Refused with 1, 2, 1, 3, 4, 5.
 pub fn step(
     card: &mut Card,
     bench: &[i32],
@@ -217,7 +225,7 @@ pub fn step(
     values: &mut [i32],
     word: u16,
     out: &mut [u8],
-) -> Result<usize, Refusal> {
+) -> Result<Stepped, Refusal> {
     let (rows, values) = card.admit(bench, maker, values)?;
     if word > SILENCE {
         return Err(Refusal::Word);
@@ -226,9 +234,11 @@ pub fn step(
         return Err(Refusal::Room);
     }
     if card.open.to_close(&[word]) == 1 {
-        return Ok(0);
+        return Ok(Stepped { written: 0, cause: Cause::NotClosed });
     }
-    card.close(&rows, values, out).ok_or(Refusal::Room)
+    let cause = Cause::of_closing(card, &rows, values);
+    let written = card.close(&rows, values, out).ok_or(Refusal::Room)?;
+    Ok(Stepped { written, cause })
 }
 
 /// Takes words until all are taken or the next word's reply no longer fits. Refused with 1, 2, 1, 3,

@@ -1,4 +1,4 @@
-//! Document 01 in plain Rust, and of document 02 requests 1 and 2.
+//! Document 01 in plain Rust, and of document 02 requests 1, 2 and 4.
 //!
 //! The typed calls are [`card::step`], [`card::run`], [`normal::normal_form`], [`message::write`],
 //! [`reply::read`], [`listing::line`] and [`sheet::lookup`]; [`calls`] has the same over numbers and
@@ -6,6 +6,7 @@
 
 pub mod calls;
 pub mod card;
+pub mod cause;
 pub mod hearing;
 pub mod listing;
 pub mod message;

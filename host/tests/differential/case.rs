@@ -3,11 +3,11 @@
 use kavtziron_host::gen::World;
 use std::fmt::{Debug, Display, Write as _};
 
-/// One call with all that is lent. The rooms are filled with a pattern. `Ignored` is several calls: a
+/// One call with all that is lent. The rooms are filled with a pattern; `counts` and `cause` are lengths. `Ignored` is several calls: a
 /// recording, and what the card hears in it that is for itself, with room for every reply.
 #[derive(Clone, Debug, PartialEq)]
 pub(crate) enum Case {
-    Step { world: Lent, word: u16, room: usize },
+    Step { world: Lent, word: u16, room: usize, cause: usize },
     Run { world: Lent, words: Vec<u16>, room: usize, counts: usize },
     Ignored { world: Lent, words: Vec<u16> },
     NormalForm { words: Vec<u16>, room: usize },
@@ -76,7 +76,9 @@ impl Display for Asked {
 impl Display for Case {
     fn fmt(&self, f: &mut std::fmt::Formatter) -> std::fmt::Result {
         match self {
-            Case::Step { world, word, room } => write!(f, "step {world} word={word} room={room}"),
+            Case::Step { world, word, room, cause } => {
+                write!(f, "step {world} word={word} room={room} cause={cause}")
+            }
             Case::Run { world, words, room, counts } => {
                 write!(f, "run {world} words={} room={room} counts={counts}", joined(words))
             }
@@ -128,7 +130,9 @@ pub(crate) fn parse(line: &str) -> Case {
     let words = || list(text("words"));
     let room = || one(text("room"));
     match name {
-        "step" => Case::Step { world: world(), word: one(text("word")), room: room() },
+        "step" => {
+            Case::Step { world: world(), word: one(text("word")), room: room(), cause: one(text("cause")) }
+        }
         "run" => Case::Run { world: world(), words: words(), room: room(), counts: one(text("counts")) },
         "ignored" => Case::Ignored { world: world(), words: words() },
         "normal_form" => Case::NormalForm { words: words(), room: room() },

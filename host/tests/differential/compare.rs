@@ -1,6 +1,7 @@
 //! Both sides of a case, with guards before and behind each buffer.
 
-use crate::case::{Asked, Case};
+use crate::case::{Asked, Case, Lent};
+use crate::drawn::{suits, Cause};
 use crate::ignored::ignored;
 use kavtziron_host::abi;
 use kavtziron_host::reference::calls;
@@ -77,35 +78,62 @@ fn same_result(archive: i64, reference: i64) -> Result<i64, String> {
     }
 }
 
-/// Both sides of one case. Gives the result that both gave.
-pub(crate) fn compare(case: &Case) -> Result<i64, String> {
+/// What both sides gave: the result, and the cause where a single word was served.
+pub(crate) struct Agreed {
+    pub(crate) result: i64,
+    pub(crate) cause: Option<Cause>,
+}
+
+/// Both sides of one case.
+pub(crate) fn compare(case: &Case) -> Result<Agreed, String> {
     match case {
-        Case::Step { world, word, room } => {
-            let mut cards = [Guarded::of(&world.card), Guarded::of(&world.card)];
-            let mut values = [Guarded::of(&world.values), Guarded::of(&world.values)];
-            let mut outs = [Guarded::<u8>::room(*room), Guarded::room(*room)];
-            let archive = abi::step(
-                cards[0].inside(),
-                &world.bench,
-                &world.maker,
-                values[0].inside(),
-                *word,
-                outs[0].inside(),
-            );
-            let reference = calls::step(
-                cards[1].inside(),
-                &world.bench,
-                &world.maker,
-                values[1].inside(),
-                *word,
-                outs[1].inside(),
-            );
-            let result = same_result(archive, reference)?;
-            same("card", &cards[0], &cards[1])?;
-            same("values", &values[0], &values[1])?;
-            same("out", &outs[0], &outs[1])?;
-            Ok(result)
-        }
+        Case::Step { world, word, room, cause } => compare_step(world, *word, *room, *cause),
+        _ => compare_other(case).map(|result| Agreed { result, cause: None }),
+    }
+}
+
+fn compare_step(world: &Lent, word: u16, room: usize, length: usize) -> Result<Agreed, String> {
+    let mut cards = [Guarded::of(&world.card), Guarded::of(&world.card)];
+    let mut values = [Guarded::of(&world.values), Guarded::of(&world.values)];
+    let mut outs = [Guarded::<u8>::room(room), Guarded::room(room)];
+    let mut causes = [Guarded::<i32>::room(length), Guarded::room(length)];
+    let archive = abi::step(
+        cards[0].inside(),
+        &world.bench,
+        &world.maker,
+        values[0].inside(),
+        word,
+        outs[0].inside(),
+        causes[0].inside(),
+    );
+    let reference = calls::step(
+        cards[1].inside(),
+        &world.bench,
+        &world.maker,
+        values[1].inside(),
+        word,
+        outs[1].inside(),
+        causes[1].inside(),
+    );
+    let result = same_result(archive, reference)?;
+    same("cause", &causes[0], &causes[1])?;
+    same("card", &cards[0], &cards[1])?;
+    same("values", &values[0], &values[1])?;
+    same("out", &outs[0], &outs[1])?;
+    let Ok(written) = usize::try_from(result) else {
+        return Ok(Agreed { result, cause: None });
+    };
+    let cause = [causes[0].inside()[0], causes[0].inside()[1]];
+    if !suits(cause, &outs[0].inside()[..written]) {
+        return Err(format!("both sides gave cause {cause:?}, which the reply of {result} bytes can't have"));
+    }
+    Ok(Agreed { result, cause: Some(cause) })
+}
+
+/// Gives the result that both gave.
+fn compare_other(case: &Case) -> Result<i64, String> {
+    match case {
+        Case::Step { .. } => unreachable!("it has a function of its own"),
         Case::Run { world, words, room, counts } => {
             let mut cards = [Guarded::of(&world.card), Guarded::of(&world.card)];
             let mut values = [Guarded::of(&world.values), Guarded::of(&world.values)];

@@ -19,6 +19,8 @@ mod case;
 #[cfg(kav_linked)]
 mod compare;
 #[cfg(kav_linked)]
+mod drawn;
+#[cfg(kav_linked)]
 mod groups;
 #[cfg(kav_linked)]
 mod ignored;

@@ -2,7 +2,8 @@
 //! case that failed.
 
 use crate::case::{parse, Case};
-use crate::compare::compare;
+use crate::compare::{compare, Agreed};
+use crate::drawn::Drawn;
 use crate::groups::{Bench, Failure, GROUPS};
 use kavtziron_host::gen::Rng;
 use std::process::ExitCode;
@@ -18,8 +19,8 @@ struct Found {
     failure: Box<Failure>,
 }
 
-/// Runs a group over its numbers on all processors. Gives the count of cases.
-fn run_group(at: usize, seed: u64, numbers: u64, traced: bool) -> (u64, Option<Found>) {
+/// Runs a group over its numbers on all processors. Gives the count of cases, and counts the causes drawn.
+fn run_group(at: usize, seed: u64, numbers: u64, traced: bool, drawn: &Mutex<Drawn>) -> (u64, Option<Found>) {
     const BLOCK: u64 = 64;
     let group = &GROUPS[at];
     let next = AtomicU64::new(0);
@@ -30,7 +31,7 @@ fn run_group(at: usize, seed: u64, numbers: u64, traced: bool) -> (u64, Option<F
     std::thread::scope(|scope| {
         for _ in 0..threads {
             scope.spawn(|| {
-                let mut bench = Bench { count: 0, traced };
+                let mut bench = Bench::new(traced);
                 'blocks: while !stop.load(Ordering::Relaxed) {
                     let from = next.fetch_add(BLOCK, Ordering::Relaxed);
                     if from >= numbers {
@@ -49,6 +50,7 @@ fn run_group(at: usize, seed: u64, numbers: u64, traced: bool) -> (u64, Option<F
                     }
                 }
                 count.fetch_add(bench.count, Ordering::Relaxed);
+                drawn.lock().unwrap().add(&bench.drawn);
             });
         }
     });
@@ -124,8 +126,11 @@ fn replay(text: &str) -> ExitCode {
     let case = parse(&text);
     assert_eq!(parse(&case.to_string()), case);
     match compare(&case) {
-        Ok(result) => {
-            println!("both sides agree: {result}");
+        Ok(Agreed { result, cause }) => {
+            println!(
+                "both sides agree: {result}{}",
+                cause.map_or(String::new(), |it| format!(", cause {it:?}"))
+            );
             ExitCode::SUCCESS
         }
         Err(what) => {
@@ -135,8 +140,18 @@ fn replay(text: &str) -> ExitCode {
     }
 }
 
+/// What the groups are run with.
+struct Turn {
+    seed: u64,
+    times: u64,
+    part: u64,
+    fixed: bool,
+    traced: bool,
+}
+
 /// All groups with one seed, or of each the first of so many parts. Gives the count, or what was found.
-fn all(seed: u64, times: u64, part: u64, fixed: bool, traced: bool) -> Result<u64, Found> {
+fn all(turn: &Turn, drawn: &Mutex<Drawn>) -> Result<u64, Found> {
+    let Turn { seed, times, part, fixed, traced } = *turn;
     let mut total = 0;
     for (at, group) in GROUPS.iter().enumerate() {
         if !fixed && !group.random {
@@ -144,7 +159,7 @@ fn all(seed: u64, times: u64, part: u64, fixed: bool, traced: bool) -> Result<u6
         }
         let start = Instant::now();
         let numbers = if group.random { group.numbers * times } else { group.numbers }.div_ceil(part);
-        let (count, found) = run_group(at, seed, numbers, traced);
+        let (count, found) = run_group(at, seed, numbers, traced, drawn);
         total += count;
         if let Some(found) = found {
             return Err(found);
@@ -168,15 +183,19 @@ pub(crate) fn main() -> ExitCode {
     let seeds = number_of("KAV_SEED").map_or_else(|| vec![FIXED_SEED, fresh()], |seed| vec![seed]);
     let start = Instant::now();
     let mut total = 0;
+    let drawn = Mutex::new(Drawn::default());
     for (turn, &seed) in seeds.iter().enumerate() {
         println!("seed {seed} (KAV_SEED={seed} repeats it)");
-        match all(seed, times, part, turn == 0, traced) {
+        match all(&Turn { seed, times, part, fixed: turn == 0, traced }, &drawn) {
             Ok(count) => total += count,
             Err(found) => {
                 report(seed, found);
                 return ExitCode::FAILURE;
             }
         }
+    }
+    if !drawn.into_inner().unwrap().print() {
+        return ExitCode::FAILURE;
     }
     println!("differential: {total} cases agree, {:.1} s", start.elapsed().as_secs_f64());
     ExitCode::SUCCESS

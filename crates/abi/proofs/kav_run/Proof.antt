@@ -17,7 +17,7 @@ returns c =
 
 returns-2 : tie.Need-returns-2
 returns-2 c =
-    let f = c .short-run in
+    let f = c .too-short in
     let d = c .before .before .before in
     let i = d .before .before .before in
     let a = i .before .before .before .before .before .args in

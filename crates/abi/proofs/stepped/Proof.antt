@@ -1,4 +1,4 @@
--- `abi::stepped` meets its contract: the refusal's number, or the count with the card stored back. Assumes nothing.
+-- `abi::stepped` meets its contract: the refusal's number, or the count with the card stored back and the cause given. Assumes nothing.
 use Rattle.abi.specs.Result.{resultOf}
 use Rattle.abi.proofs.Laws.{wide-ok}
 use borrow.Author.Needs.{needs}
@@ -13,10 +13,17 @@ returns c values out =
 returns-2 : tie.Need-returns-2
 unfolding resultOf
 returns-2 c values out =
-    let p = c .before .before in
-    rw (wide-ok (c .count-result .result) (c .count-result .ok), c .count-result .ensures, p .store .ensures, p .before .before .before .answer2 .given .1)
+    let u = c .before .before in
+    let p = u .before .before .before in
+    rw (
+      wide-ok (c .count-result .result) (c .count-result .ok),
+      c .count-result .ensures,
+      u .put-cause .ensures,
+      p .store .ensures,
+      p .before .before .before .answer2 .given .1,
+    )
 
 pub stepped-spec : {M : Type 1} → statement M
 stepped-spec = tie.close (tie.spec
-    (λ c. search needs) (λ c κs. search needs) (λ c. search needs) (λ c κs. search needs) (λ c κs. search needs) returns
-    (λ c. search needs) returns-2)
+    (λ c. search needs) (λ c κs. search needs) (λ c. search needs) (λ c κs. search needs) (λ c κs. search needs) (λ c κs. search needs)
+    returns (λ c. search needs) (λ c. search needs) returns-2)

@@ -45,7 +45,7 @@ use denote.Triple.Call.{calls-at}
 use denote.Triple.Clauses.{Lasts, ensured, lasts}
 use denote.Triple.Table.{entered, cited}
 use denote.Triple.Walked.{says, Stays, stay-ref, walkOf, AllGo, goes-ref, Walks, ends-at, walked, walk-meets}
-use Rattle.card.specs.Calls.{After, stepAfter, stepCall}
+use Rattle.card.specs.Calls.{After, WordAnswer, stepAfter, stepCall}
 use Rattle.card.specs.declared.Card.{Card}
 use Rattle.card.specs.declared.StepAnswer.{StepAnswer}
 use Rattle.card.specs.declared.Stepped.{Stepped}
@@ -112,7 +112,7 @@ module _ {M : Type 1} (𝓤 : URA M) (H : Heap 𝓤) (A : Atoms 𝓤) (W : Given
   passed = vptr b o ∷ only (slice-vals bench) ∷ only (slice-vals maker) ∷ only (slice-vals values) ∷ vint w16 word ∷ only (slice-vals out) ∷ []
 
   -- what `step` leaves
-  abbrev after : After ℕ
+  abbrev after : After WordAnswer
   after = stepCall h (bench .now) (maker .now) (values .now) word (out .now)
 
   abbrev Post : Val → SProp 𝓤

@@ -13,6 +13,7 @@ use Rattle.demands.proofs.Possible.{reader-exact}
 use Rattle.demands.proofs.Offers.{offer-reachable, never-up}
 use Rattle.demands.proofs.Recordings.{demand-3}
 use Rattle.demands.proofs.Neighbours.{neighbours-ignored}
+use Rattle.demands.proofs.Causes.{causes}
 
 demand-2 : Demand2
 demand-2 = record {
@@ -26,7 +27,7 @@ demand-2 = record {
 }
 
 all-hold : Demands
-all-hold = record { demand-1 = demand-1; demand-2 = demand-2; demand-3 = demand-3; neighbours-ignored = neighbours-ignored; bench = bench; more = more; twenty-heard = twenty-heard; scan = scan; no-replies = no-replies }
+all-hold = record { demand-1 = demand-1; demand-2 = demand-2; demand-3 = demand-3; neighbours-ignored = neighbours-ignored; causes = causes; bench = bench; more = more; twenty-heard = twenty-heard; scan = scan; no-replies = no-replies }
 
 returns : tie.Need-returns
 returns c = (refl, all-hold)

@@ -3,6 +3,7 @@
 //! The files beside this one hold the tests; here is what they have in common.
 
 mod card;
+mod cause;
 mod hearing;
 mod listing;
 mod message;
@@ -11,7 +12,8 @@ mod refusals;
 mod scan;
 mod sheet;
 
-use super::card::{run, step, Card};
+use super::card::{run, step, Card, Stepped};
+use super::cause::Cause;
 use super::hearing::{for_each_heard, Open};
 use super::message::Message;
 use super::parity::{is_good, on_line};
@@ -63,12 +65,24 @@ fn answers(card: &mut Card, values: &mut [i32; 128], sent: &[u16]) -> String {
     let mut bytes = Vec::new();
     for &word in sent {
         let mut out = [0xEE; 35];
-        let count = step(&mut other, &BENCH, &[], &mut others, word, &mut out).unwrap();
-        assert!(out[count..].iter().all(|&byte| byte == 0xEE));
-        bytes.extend_from_slice(&out[..count]);
+        let Stepped { written, cause } = step(&mut other, &BENCH, &[], &mut others, word, &mut out).unwrap();
+        assert!(out[written..].iter().all(|&byte| byte == 0xEE));
+        assert!(suits(cause, &out[..written]), "{cause:?}");
+        bytes.extend_from_slice(&out[..written]);
     }
     assert_eq!((*card, *values, &out[..ran.written]), (other, others, &bytes[..]));
     text(&bytes)
+}
+
+/// Whether a reply, or silence, can have this cause.
+fn suits(cause: Cause, reply: &[u8]) -> bool {
+    let codes = match text(reply).as_bytes() {
+        [] => 7..=10,
+        [.., b'N', b'*'] => 1..=6,
+        _ => 0..=0,
+    };
+    let [code, position] = cause.numbers();
+    codes.contains(&code) && code != 4 && (position != 0) == (code == 10) && matches!(position, 0..=9)
 }
 
 fn from_afresh(sent: &str) -> String {

@@ -1,7 +1,8 @@
 //! Messages for another letter or address: the card takes no notice of them.
 
 use super::{answers, from_afresh, heard, line, values, words, BENCH, CARD};
-use crate::reference::card::{run, step, Card, Offer, Ran};
+use crate::reference::card::{run, step, Card, Offer, Ran, Stepped};
+use crate::reference::cause::Cause;
 use crate::reference::normal::normal_form;
 use crate::reference::scan::Scan;
 
@@ -218,7 +219,7 @@ fn a_neighbours_message_asks_for_no_room() {
     // A single word asks for 33 whatever it closes.
     let mut open = OFFERED;
     open.open.to_close(&words("L8mI"));
-    for (room, wanted) in [(32, None), (33, Some(0))] {
+    for (room, wanted) in [(32, None), (33, Some(Stepped { written: 0, cause: Cause::OtherCard }))] {
         let mut card = open;
         let answer = step(&mut card, &BENCH, &[], &mut values(), 0xAA, &mut vec![0; room]);
         assert_eq!(answer.ok(), wanted);

@@ -103,12 +103,16 @@ struct Lent<'a> {
 }
 
 impl Lent<'_> {
-    fn step(&self, room: usize) {
+    fn step(&self, room: usize, length: usize) {
         let Lent { mut card, bench, maker, mut values, word, first } = self.clone();
-        let wanted = if first == 0 && room < 33 { 5 } else { first };
-        let mut out = vec![0xEE; room];
-        assert_eq!(calls::step(&mut card, bench, maker, &mut values, word, &mut out), -wanted);
+        let wanted = if first == 0 && (room < 33 || length < 2) { 5 } else { first };
+        let (mut out, mut cause) = (vec![0xEE; room], vec![77; length]);
+        let given = calls::step(&mut card, bench, maker, &mut values, word, &mut out, &mut cause);
+        assert_eq!(given, -wanted);
         assert!(out.iter().all(|&byte| byte == 0xEE));
+        let written = if wanted == 0 { 2 } else { 0 };
+        assert_eq!(cause[..written], [9, 0][..written]);
+        assert!(cause[written..].iter().all(|&number| number == 77));
         if wanted != 0 {
             assert_eq!((card, values), (self.card.clone(), self.values.clone()));
         }
@@ -158,8 +162,10 @@ fn try_refusals(card: &[i32], before: bool, behind: bool) {
             first: tests.iter().find(|test| test.0).map_or(0, |test| test.1),
         };
         for room in [0, 11, 32, 33] {
-            lent.step(room);
-            (0..4).for_each(|length| lent.run(room, length));
+            (0..4).for_each(|length| {
+                lent.step(room, length);
+                lent.run(room, length);
+            });
         }
     }
 }

@@ -2,7 +2,8 @@
 
 use super::{answers, from_afresh, plain, text, values, words, BENCH, CARD};
 use crate::reference::calls::{self, row_of};
-use crate::reference::card::{run, step, Card, Offer, Ran};
+use crate::reference::card::{run, step, Card, Offer, Ran, Stepped};
+use crate::reference::cause::Cause;
 use crate::reference::scan::Scan;
 use crate::reference::sheet::lookup;
 use crate::reference::Refusal;
@@ -167,14 +168,16 @@ fn the_room_for_it() {
         for word in words("L*x").into_iter().chain([256]) {
             for (room, wanted) in [(0, Err(Refusal::Room)), (32, Err(Refusal::Room)), (33, Ok(0))] {
                 let mut out = vec![0xEE; room];
-                assert_eq!(step(&mut card.clone(), &BENCH, &[], &mut values(), word, &mut out), wanted);
+                let got = step(&mut card.clone(), &BENCH, &[], &mut values(), word, &mut out);
+                assert_eq!(got.map(|stepped| stepped.written), wanted);
             }
         }
     }
     let mut longest = Card { address: 70, ..naming(b"MMMMM") };
     longest.open.to_close(&words("L70]?"));
     let (mut card, mut out) = (longest, [0xEE; 33]);
-    assert_eq!(step(&mut card, &BENCH, &[], &mut values(), 0xAA, &mut out), Ok(33));
+    let longest_reply = Stepped { written: 33, cause: Cause::None };
+    assert_eq!(step(&mut card, &BENCH, &[], &mut values(), 0xAA, &mut out), Ok(longest_reply));
     assert_eq!(text(&out), plain("L70]25_02311_02311_02311_02311_02311_A*"));
     // A run stops where it no longer fits, and that word leaves no trace.
     let offer = Some(Offer { identifier: b'm', value: 30 });

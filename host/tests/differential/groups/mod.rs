@@ -1,8 +1,10 @@
 //! The groups of cases, what they hand them to, and what several of them draw.
 
+mod cause;
 mod lookup;
 mod neighbours;
 mod normal_form;
+mod place;
 mod read;
 mod run;
 mod scan;
@@ -10,11 +12,14 @@ mod step;
 mod write;
 
 use crate::case::Case;
-use crate::compare::compare;
+use crate::compare::{compare, Agreed};
+use crate::drawn::{Cause, Drawn};
+use cause::{causes_known, causes_together};
 use kavtziron_host::gen::{self, Mixture, Rng, World};
 use lookup::{lookup_every, lookup_random};
 use neighbours::{neighbours_ignored, neighbours_messages, neighbours_run, neighbours_walk};
 use normal_form::{normal_form_long, normal_form_random, normal_form_rooms};
+use place::{every_place, long_texts, short_texts};
 use read::{read_babble, read_edits, read_every, read_random, read_scans};
 use run::{every_data, every_pair, run_in_parts, run_long, run_random, run_rooms, wrong_word_behind};
 use scan::{scan_broken, scan_messages};
@@ -24,6 +29,7 @@ use write::{line_random, line_rooms, write_random, write_rooms};
 /// What a group hands its cases to.
 pub(crate) struct Bench {
     pub(crate) count: u64,
+    pub(crate) drawn: Drawn,
     pub(crate) traced: bool,
 }
 
@@ -33,24 +39,43 @@ pub(crate) struct Failure {
 }
 
 impl Bench {
+    pub(crate) fn new(traced: bool) -> Bench {
+        Bench { count: 0, drawn: Drawn::default(), traced }
+    }
+
     fn check(&mut self, case: Case) -> Result<i64, Box<Failure>> {
+        self.compare(&case).map(|agreed| agreed.result)
+    }
+
+    /// The result has to be this one as well.
+    fn expect(&mut self, case: Case, result: i64) -> Checked {
+        let got = self.compare(&case)?.result;
+        made_to_give(case, got, result)
+    }
+
+    /// The single word has to be served, with this cause.
+    fn expect_cause(&mut self, case: Case, cause: Cause) -> Checked {
+        let got = self.compare(&case)?.cause;
+        made_to_give(case, got, Some(cause))
+    }
+
+    fn compare(&mut self, case: &Case) -> Result<Agreed, Box<Failure>> {
         self.count += 1;
         if self.traced {
             let _ = std::fs::write("target/last-case.txt", format!("{case}\n"));
         }
-        compare(&case).map_err(|what| Box::new(Failure { what, case }))
+        let agreed = compare(case).map_err(|what| Box::new(Failure { what, case: case.clone() }))?;
+        agreed.cause.into_iter().for_each(|cause| self.drawn.count(cause));
+        Ok(agreed)
     }
+}
 
-    /// The result has to be this one as well.
-    fn expect(&mut self, case: Case, result: i64) -> Result<(), Box<Failure>> {
-        let kept = case.clone();
-        let got = self.check(case)?;
-        if got == result {
-            return Ok(());
-        }
-        let what = format!("both sides gave {got}, but the case was made to give {result}");
-        Err(Box::new(Failure { what, case: kept }))
+fn made_to_give<T: PartialEq + std::fmt::Debug>(case: Case, got: T, wanted: T) -> Checked {
+    if got == wanted {
+        return Ok(());
     }
+    let what = format!("both sides gave {got:?}, but the case was made to give {wanted:?}");
+    Err(Box::new(Failure { what, case }))
 }
 
 type Checked = Result<(), Box<Failure>>;
@@ -88,12 +113,22 @@ fn some_words(rng: &mut Rng, world: &World, length: usize) -> Vec<u16> {
     }
 }
 
+/// A length of the cause that is served.
+fn cause_length(rng: &mut Rng) -> usize {
+    rng.pick(&[2, 2, 3, 4])
+}
+
 pub(crate) const GROUPS: &[Group] = &[
-    Group { name: "refusals: every set", numbers: 256 * 500, random: true, make: refusals },
+    Group { name: "refusals: every set", numbers: 512 * 300, random: true, make: refusals },
     Group { name: "step: random", numbers: 180_000, random: true, make: step_random },
     Group { name: "step: one or two numbers spoiled", numbers: 200_000, random: true, make: step_spoiled },
     Group { name: "step: recordings word by word", numbers: 8_000, random: true, make: step_walk },
     Group { name: "step: every word", numbers: 65_536, random: false, make: every_word },
+    Group { name: "cause: known ones", numbers: cause::CARDS, random: false, make: causes_known },
+    Group { name: "cause: every two at once", numbers: cause::TOGETHER, random: true, make: causes_together },
+    Group { name: "cause: every place", numbers: place::PLACES, random: true, make: every_place },
+    Group { name: "cause: every short text", numbers: place::SHORT, random: false, make: short_texts },
+    Group { name: "cause: every text behind #", numbers: place::LONG, random: false, make: long_texts },
     Group { name: "run: random", numbers: 120_000, random: true, make: run_random },
     Group { name: "run: every room", numbers: 2_000, random: true, make: run_rooms },
     Group { name: "run: in parts", numbers: 2_000, random: true, make: run_in_parts },

@@ -71,14 +71,15 @@ pub(crate) fn neighbours_messages(rng: &mut Rng, _: u64, bench: &mut Bench) -> C
         world.open_with(&text);
         let lent: Lent = world.clone().into();
         for (room, wanted) in [(32, -5), (33, 0)] {
-            bench.expect(Case::Step { world: lent.clone(), word, room }, wanted)?;
+            bench.expect(Case::Step { world: lent.clone(), word, room, cause: 2 }, wanted)?;
         }
         bench.expect(Case::Run { world: lent, words: vec![word], room: 0, counts: 2 }, 0)?;
         let mut after = world.clone();
-        calls::step(&mut after.card, &after.bench, &after.maker, &mut after.values, word, &mut [0; 33]);
+        let World { card, bench: first, maker, values, .. } = &mut after;
+        calls::step(card, first, maker, values, word, &mut [0; 33], &mut [0; 2]);
         after.open_with(own.as_bytes());
         let length = own.len() - 1 + 5 + 2;
-        bench.expect(Case::Step { world: after.into(), word, room: 33 }, length as i64)?;
+        bench.expect(Case::Step { world: after.into(), word, room: 33, cause: 2 }, length as i64)?;
     }
     Ok(())
 }

@@ -1,6 +1,6 @@
 //! Groups of messages on `]` and of scans that aren't sound, through `kav_step` and `kav_run`.
 
-use super::{Bench, Checked};
+use super::{cause_length, Bench, Checked};
 use crate::case::{Case, Lent};
 use kavtziron_host::gen::{self, Rng, World};
 
@@ -30,7 +30,8 @@ pub(crate) fn scan_messages(rng: &mut Rng, _: u64, bench: &mut Bench) -> Checked
         };
         let lent: Lent = world.clone().into();
         for (room, wanted) in [(32, -5), (33, length as i64), (35, length as i64)] {
-            bench.expect(Case::Step { world: lent.clone(), word, room }, wanted)?;
+            let cause = cause_length(rng);
+            bench.expect(Case::Step { world: lent.clone(), word, room, cause }, wanted)?;
         }
         let words: Vec<u16> = [word].into_iter().chain(gen::words_of(b"L7??*")).collect();
         for room in [length.saturating_sub(1), length, length + 1 + rng.below(6)] {
@@ -53,7 +54,7 @@ pub(crate) fn scan_broken(rng: &mut Rng, _: u64, bench: &mut Bench) -> Checked {
     for words in [vec![], vec![word]] {
         bench.expect(Case::Run { world: behind.clone().into(), words, room, counts: 2 }, 0)?;
     }
-    bench.check(Case::Step { world: behind.into(), word, room })?;
+    bench.check(Case::Step { world: behind.into(), word, room, cause: cause_length(rng) })?;
 
     let mut wrong = sound;
     gen::break_scan(rng, &mut wrong);
@@ -70,7 +71,8 @@ pub(crate) fn scan_broken(rng: &mut Rng, _: u64, bench: &mut Bench) -> Checked {
     for (world, wanted) in [(wrong, -1), (values, -1), (sheet, -2), (card, -1)] {
         let (lent, word) = (Lent::from(world), rng.pick(&[word, 257]));
         let (room, counts) = (rng.pick(&[0, 32, 33]), rng.pick(&[1, 2]));
-        bench.expect(Case::Step { world: lent.clone(), word, room }, wanted)?;
+        let cause = rng.below(4);
+        bench.expect(Case::Step { world: lent.clone(), word, room, cause }, wanted)?;
         bench.expect(Case::Run { world: lent, words: vec![word], room, counts }, wanted)?;
     }
     Ok(())

@@ -1,6 +1,6 @@
 //! Groups of single words: `kav_step`, and with `kav_run` every set of refusals.
 
-use super::{Bench, Checked};
+use super::{cause_length, Bench, Checked};
 use crate::case::{Case, Lent};
 use kavtziron_host::gen::{self, Rng, World};
 use kavtziron_host::reference::calls;
@@ -24,7 +24,8 @@ pub(crate) fn step_random(rng: &mut Rng, _: u64, bench: &mut Bench) -> Checked {
         1 => rng.below(36),
         _ => 33 + rng.below(3),
     };
-    bench.check(Case::Step { world: world.into(), word, room })?;
+    let cause = if rng.percent(5) { rng.below(2) } else { cause_length(rng) };
+    bench.check(Case::Step { world: world.into(), word, room, cause })?;
     Ok(())
 }
 
@@ -49,7 +50,8 @@ pub(crate) fn step_spoiled(rng: &mut Rng, _: u64, bench: &mut Bench) -> Checked 
     }
     let word = any_word(rng);
     let room = 33 + rng.below(3);
-    bench.check(Case::Step { world: world.into(), word, room })?;
+    let cause = cause_length(rng);
+    bench.check(Case::Step { world: world.into(), word, room, cause })?;
     Ok(())
 }
 
@@ -65,9 +67,9 @@ pub(super) fn walk(rng: &mut Rng, mut world: World, words: &[u16], bench: &mut B
     for &word in words {
         let room = 33 + rng.below(2);
         let lent: Lent = world.clone().into();
-        bench.check(Case::Step { world: lent, word, room })?;
-        let mut out = [0; 33];
-        calls::step(&mut world.card, &world.bench, &world.maker, &mut world.values, word, &mut out);
+        bench.check(Case::Step { world: lent, word, room, cause: cause_length(rng) })?;
+        let World { card, bench: first, maker, values, .. } = &mut world;
+        calls::step(card, first, maker, values, word, &mut [0; 33], &mut [0; 2]);
     }
     Ok(())
 }
@@ -75,7 +77,7 @@ pub(super) fn walk(rng: &mut Rng, mut world: World, words: &[u16], bench: &mut B
 /// Every word there is, to a card in the middle of something.
 pub(crate) fn every_word(rng: &mut Rng, number: u64, bench: &mut Bench) -> Checked {
     let world = World::new(rng);
-    bench.check(Case::Step { world: world.into(), word: number as u16, room: 34 })?;
+    bench.check(Case::Step { world: world.into(), word: number as u16, room: 34, cause: 3 })?;
     Ok(())
 }
 
@@ -117,8 +119,9 @@ pub(crate) fn refusals(rng: &mut Rng, number: u64, bench: &mut Bench) -> Checked
     let word = if has(5) { gen::wrong_word(rng) } else { u16::from(gen::on_line(b'*')) };
     let short = if rng.percent(50) { 32 } else { rng.below(33) };
     let room = if has(6) { short } else { 33 + rng.below(4) };
-    let case = Case::Step { world: lent.clone(), word, room };
-    match if first == 0 && has(6) { 5 } else { first } {
+    let cause = if has(8) { rng.below(2) } else { cause_length(rng) };
+    let case = Case::Step { world: lent.clone(), word, room, cause };
+    match if first == 0 && (has(6) || has(8)) { 5 } else { first } {
         0 => bench.check(case).map(|_| ())?,
         refusal => bench.expect(case, -refusal)?,
     }

@@ -9,7 +9,7 @@ use Rattle.act.proofs.causes.asks.Tie as tie
 returns : tie.Need-returns
 returns c =
     let s = c .before in
-    ap (λ (b : Bool). stands true b (s .args .allowed) (s .args .decimals) (s .args .number) (s .args .step)) (c .is-found .ensures)
+    ap (λ (b : Bool). stands true b (s .args .allowed) (s .args .matching) (s .args .within) (s .args .reachable)) (c .is-found .ensures)
 
 pub asks-spec : {M : Type 1} → statement M
 asks-spec = tie.close (tie.spec (λ c κs. search needs) returns)

@@ -13,7 +13,7 @@ returns c =
     let row = s .args .row in
     let next = c .before .raised in
     let step = rd-is {z = row .step} (record { sfits = c .before .before .struct-told .given .1 .1 .0 .1 }) in
-    c .within .ensures
+    c .within-row .ensures
     ∙ ap (λ (z : ℤ). inRange (row .least) z (row .greatest)) (rd-ok (next .result) (next .ok) ∙ next .ensures ∙ ap₂ raised (rd-is (s .fits .value)) step)
 
 pub can-rise-spec : {M : Type 1} → statement M

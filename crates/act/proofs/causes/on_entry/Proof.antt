@@ -7,17 +7,17 @@ use Rattle.number.specs.Number.{inRange, raised, lowered}
 use Rattle.number.proofs.Signed.{rd-is}
 use Rattle.sheet.specs.declared.Row.{Row}
 use Rattle.sheet.specs.Values.{isReadable, isWritable, isReadWrite}
-use Rattle.act.specs.Cause.{stands, isFound, onEntry}
+use Rattle.act.specs.Cause.{stands, isFound, standing}
 use borrow.Author.Needs.{needs}
 use Rattle.act.proofs.causes.on_entry.Statement.{statement}
 use Rattle.act.proofs.causes.on_entry.Tie as tie
 
 returns : tie.Need-returns
-unfolding onEntry
+unfolding standing
 returns c = c .asks-offer .ensures ∙ sym (rw (c .before .enum-told .given .1))
 
 returns-2 : tie.Need-returns-2
-unfolding onEntry
+unfolding standing
 returns-2 c =
     let q = c .before in
     let t = q .before .before .before in
@@ -26,7 +26,7 @@ returns-2 c =
     ∙ sym (rw (q .before .enum-told2 .given .1))
 
 returns-3 : tie.Need-returns-3
-unfolding onEntry
+unfolding standing
 returns-3 c =
     let q = c .before in
     let a = q .before in
@@ -39,7 +39,7 @@ returns-3 c =
     ∙ sym (rw (a .before .enum-told3 .given .1))
 
 returns-4 : tie.Need-returns-4
-unfolding onEntry
+unfolding standing
 returns-4 c =
     let q = c .before in
     let a = q .before in
@@ -52,7 +52,7 @@ returns-4 c =
     ∙ sym (rw (a .before .enum-told4 .given .1))
 
 returns-5 : tie.Need-returns-5
-unfolding onEntry
+unfolding standing
 returns-5 c =
     let w = c .before in
     let a = w .before .before .before .before in
@@ -63,12 +63,12 @@ returns-5 c =
     let x = k .body .given .0 .0 in
     c .asks4 .ensures
     ∙ ap₂ (λ (b z : Bool). stands true (isFound (s .args .entry)) b (eqb (x .decimals) (row .decimals)) z true) (a .is-writable .ensures)
-    (w .within .ensures ∙ ap (λ (n : ℤ). inRange (row .least) n (row .greatest)) (rd-is {z = x .number} (record { sfits = w .before .struct-told .given .0 .1 })))
+    (w .within-row .ensures ∙ ap (λ (n : ℤ). inRange (row .least) n (row .greatest)) (rd-is {z = x .number} (record { sfits = w .before .struct-told .given .0 .1 })))
     ∙ ap (λ (r : Row). stands true (isFound (s .args .entry)) (isWritable r) (eqb (x .decimals) (r .decimals)) (inRange (r .least) (x .number) (r .greatest)) true) (t .row-or-zeros .ensures)
     ∙ sym (rw (k .body .given .1))
 
 returns-6 : tie.Need-returns-6
-unfolding onEntry
+unfolding standing
 returns-6 c =
     let q = c .before in
     c .asks-offer2 .ensures ∙ ap (λ (b : Bool). stands b true true true true true) (q .is-offered .ensures) ∙ sym (rw (q .before .enum-told5 .given .1))

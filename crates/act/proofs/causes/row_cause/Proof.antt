@@ -4,7 +4,7 @@ use lib.IntN.{ℤ}
 use Rattle.refusal.specs.Check.{first}
 use Rattle.number.proofs.Signed.{rd-ok}
 use Rattle.sheet.specs.declared.Entry.{Entry}
-use Rattle.act.specs.declared.Standing.{Standing}
+use Rattle.act.specs.declared.causes.Standing.{Standing}
 use Rattle.act.specs.Cause.{onEntry, causes, because}
 use borrow.Author.Needs.{needs}
 use Rattle.act.proofs.causes.row_cause.Statement.{statement}

@@ -1,7 +1,7 @@
 -- `act::causes::scan_cause` meets its contract: what the card names decides, and then the first test. Assumes nothing.
 use mathlib.Core.Path.{ap, _∙_}
 use Rattle.refusal.specs.Check.{first}
-use Rattle.act.specs.declared.Standing.{Standing}
+use Rattle.act.specs.declared.causes.Standing.{Standing}
 use Rattle.act.specs.Cause.{causes, because}
 use borrow.Author.Needs.{needs}
 use Rattle.act.proofs.causes.scan_cause.Statement.{statement}

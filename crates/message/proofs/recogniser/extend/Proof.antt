@@ -1,4 +1,4 @@
--- `message::extend` meets its contract: the arm taken says which state it is. Assumes nothing.
+-- `message::recogniser::extend` meets its contract: the arm taken says which state it is. Assumes nothing.
 use mathlib.Core.Path.{sym, ap, _∙_}
 use Rattle.number.specs.Data.{digitOf}
 use Rattle.number.proofs.Digits.{digit-ends}

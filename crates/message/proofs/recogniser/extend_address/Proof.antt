@@ -1,4 +1,4 @@
--- `message::extend_address` meets its contract: a first digit above 9 would make a number above 99. Assumes nothing.
+-- `message::recogniser::extend_address` meets its contract: a first digit above 9 would make a number above 99. Assumes nothing.
 use mathlib.Core.Path.{sym, _∙_}
 use Prim.Native.Nat.{_+_, _*_}
 use native.Mathlib.Omega.{arith}

@@ -1,4 +1,4 @@
--- `message::extend_body` meets its contract: each return by the tests that led there. Assumes nothing.
+-- `message::recogniser::extend_body` meets its contract: each return by the tests that led there. Assumes nothing.
 use mathlib.Core.Path.{sym, _∙_}
 use borrow.Author.Tests.{eq-eqb, ne-eqb}
 use Rattle.message.specs.Prefix.{extendBody}

@@ -1,4 +1,4 @@
--- `message::extend_data` meets its contract: the arm taken says what has been read. Assumes nothing.
+-- `message::recogniser::extend_data` meets its contract: the arm taken says what has been read. Assumes nothing.
 use mathlib.Core.Path.{sym, _∙_}
 use Rattle.message.specs.Prefix.{extendData}
 use borrow.Author.Needs.{needs}

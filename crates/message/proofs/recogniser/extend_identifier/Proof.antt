@@ -1,4 +1,4 @@
--- `message::extend_identifier` meets its contract: the tests are the definition's. Assumes nothing.
+-- `message::recogniser::extend_identifier` meets its contract: the tests are the definition's. Assumes nothing.
 use mathlib.Core.Path.{sym, ap₂, _∙_}
 use mathlib.Core.Bool.{_&&_}
 use Rattle.message.specs.Prefix.{extendIdentifier}

@@ -1,10 +1,10 @@
--- `message::is_wrong` meets its contract: the arm taken says which state it is. Assumes nothing.
+-- `message::recogniser::is_wrong` meets its contract: the arm taken says which state it is. Assumes nothing.
 use mathlib.Core.Path.{sym}
 use mathlib.Core.List.{[], _∷_}
 use types.Run.{miss}
 use Rattle.refusal.proofs.Logic.{by-test}
 use Rattle.message.specs.Position.{isWrong}
-use Rattle.message.proofs.Accepted.{wrong-is}
+use Rattle.message.proofs.Matched.{wrong-is}
 use borrow.Author.Needs.{needs}
 use Rattle.message.proofs.recogniser.is_wrong.Statement.{statement}
 use Rattle.message.proofs.recogniser.is_wrong.Tie as tie

@@ -1,4 +1,4 @@
--- `message::position` meets its contract. The loop's invariant: what is accepted from here on, behind what was, is the position.
+-- `message::recogniser::position` meets its contract. The loop's invariant: what is matched from here on, behind what was, is the position.
 -- Assumes nothing.
 use mathlib.Core.Path.{_≡_, sym, ap, _∙_}
 use mathlib.Core.Bool.{Bool, true, false}
@@ -8,14 +8,14 @@ use native.Mathlib.Omega.{arith}
 use lib.ListN.{length, getD, drop}
 use Rattle.message.specs.declared.Prefix.{Prefix}
 use Rattle.message.specs.Prefix.{extend}
-use Rattle.message.specs.Position.{isWrong, accepted, position}
-use Rattle.message.proofs.Accepted.{accepted-end, accepted-here, accepted-on}
+use Rattle.message.specs.Position.{isWrong, matched, position}
+use Rattle.message.proofs.Matched.{matched-end, matched-here, matched-on}
 use borrow.Author.Needs.{needs}
 use Rattle.message.proofs.recogniser.position.Statement.{statement}
 use Rattle.message.proofs.recogniser.position.Tie as tie
 
 abbrev Inv-loop : tie.InvT-loop
-Inv-loop characters prefix₀ at₀ prefix at = at + accepted prefix (drop at characters) ≡ position characters
+Inv-loop characters prefix₀ at₀ prefix at = at + matched prefix (drop at characters) ≡ position characters
 
 abbrev μ-loop : tie.MeasureT-loop
 μ-loop characters prefix₀ at₀ prefix at = length characters - at
@@ -51,19 +51,19 @@ loop-again : tie.Need-loop-again Inv-loop μ-loop
 loop-again c =
     let w = c .before in
     let at = l w .loop .at in
-    let on = accepted-on (l w .loop .prefix) (cs w) at (in-turn w) (tested w false (c .if1 .left)) in
-    ap (λ (s : Prefix). at + 1 + accepted s (drop (at + 1) (cs w))) (w .before .extend .ensures) ∙ omega (arith, on, l w .loop .inv)
+    let on = matched-on (l w .loop .prefix) (cs w) at (in-turn w) (tested w false (c .if1 .left)) in
+    ap (λ (s : Prefix). at + 1 + matched s (drop (at + 1) (cs w))) (w .before .extend .ensures) ∙ omega (arith, on, l w .loop .inv)
 
 returns : tie.Need-returns Inv-loop μ-loop
 returns c =
     let l = c .before in
-    let end = accepted-end (l .loop .prefix) (l .before .before .args .characters .now) (l .loop .at) (c .loop-test .left) in
+    let end = matched-end (l .loop .prefix) (l .before .before .args .characters .now) (l .loop .at) (c .loop-test .left) in
     omega (arith, end, l .loop .inv)
 
 returns-2 : tie.Need-returns-2 Inv-loop μ-loop
 returns-2 c =
     let w = c .before in
-    let here = accepted-here (l w .loop .prefix) (cs w) (l w .loop .at) (in-turn w) (tested w true (c .if1 .taken)) in
+    let here = matched-here (l w .loop .prefix) (cs w) (l w .loop .at) (in-turn w) (tested w true (c .if1 .taken)) in
     omega (arith, here, l w .loop .inv)
 
 pub position-spec : {M : Type 1} → statement M

@@ -1,9 +1,9 @@
--- `act::causes::within` meets its contract: the ends are the row's. Assumes nothing.
+-- `act::causes::within_row` meets its contract: the ends are the row's. Assumes nothing.
 use mathlib.Core.Path.{_∙_}
 use Rattle.number.proofs.Signed.{rd-is}
 use borrow.Author.Needs.{needs}
-use Rattle.act.proofs.causes.within.Statement.{statement}
-use Rattle.act.proofs.causes.within.Tie as tie
+use Rattle.act.proofs.causes.within_row.Statement.{statement}
+use Rattle.act.proofs.causes.within_row.Tie as tie
 
 returns : tie.Need-returns
 returns c =
@@ -16,5 +16,5 @@ returns c =
       rd-is (s .fits .x),
     )
 
-pub within-spec : {M : Type 1} → statement M
-within-spec = tie.close (tie.spec (λ c κs. search needs) returns)
+pub within-row-spec : {M : Type 1} → statement M
+within-row-spec = tie.close (tie.spec (λ c κs. search needs) returns)
