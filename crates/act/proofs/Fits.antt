@@ -1,16 +1,19 @@
 -- What the causes of a message say of what the card does with it: it is answered with `N` exactly where the cause is one of the five of `N`,
 -- and with silence exactly where it is one of the others. Assumes nothing.
 use mathlib.Core.Path.{_≡_, refl, sym, ap, _∙_}
-use mathlib.Core.Bool.{true, false, cond, not, false≢true}
+use mathlib.Core.Bool.{Bool, true, false, cond, not, _&&_, _||_, false≢true}
 use mathlib.Core.List.{List}
 use mathlib.Core.Logic.{_↔_}
-use Prim.Native.Nat.{ℕ}
+use Prim.Native.Nat.{ℕ, _<_}
 use native.Mathlib.Omega.{arith}
-use lib.Dec.{eqb}
+use borrow.Author.Tests.{ltb-true}
+use lib.Dec.{eqb, ltb}
 use lib.IntN.{ℤ}
 use Rattle.refusal.specs.Refusal.{Outcome, refused, gave}
-use Rattle.refusal.specs.Check.{first, decided}
-use Rattle.refusal.proofs.Logic.{choice, by-test}
+use Rattle.refusal.specs.Check.{Check, first, decided}
+use Rattle.refusal.specs.Lists.{every}
+use Rattle.refusal.proofs.Logic.{ands, not-is, by-test}
+use Rattle.refusal.proofs.Checks.{by-first, first-among}
 use Rattle.message.specs.declared.Body.{Body}
 use Rattle.message.specs.declared.Body.the-variants as body
 use Rattle.message.specs.declared.Message.{Message}
@@ -30,25 +33,24 @@ use Rattle.act.specs.declared.causes.Cause.the-variants.{None, NoSuchIde
 use Rattle.act.specs.Cause.{Why, whyOf, isFor, causes, because, causesOfN, silences, isOneOf}
 use Rattle.act.specs.Act.{says, accepts, offers, granted, turnedDown, respond, act, causesIn}
 
--- ---- the first test that holds, one by one
+-- ---- the codes of the list
 
-module _ (c : Setup) (m : Message) (s : Standing) (P : Outcome (Unit {0}) → Type 0) where
-  pub first-by : P (refused 7) → P (refused 8) → P (refused 1) → P (refused 2) → P (refused 3) → P (refused 5) → P (refused 6) → P (gave tt) → P (first (causes c m s))
-  unfolding first causes
-  first-by other offer row access decimals range limit none =
-      choice P (not (isFor c m)) (λ _. other)
-      (λ _. choice P (not (s .offered)) (λ _. offer)
-      (λ _. choice P (not (s .exists)) (λ _. row)
-      (λ _. choice P (not (s .allowed)) (λ _. access)
-      (λ _. choice P (not (s .matching)) (λ _. decimals)
-      (λ _. choice P (not (s .within)) (λ _. range)
-      (λ _. choice P (not (s .reachable)) (λ _. limit) (λ _. none)))))))
+-- what is said with this code: nothing with the two silences of a heard message, `N` with any other; and no code is 0 or behind these
+fitsCode : ℕ → Bool
+fitsCode n =
+    ltb 0 n && (ltb n 9
+    && cond (eqb n 7 || eqb n 8) (isOneOf n silences && not (isOneOf n causesOfN)) (isOneOf n causesOfN && not (isOneOf n silences)))
 
--- under these sheets and values
-module _ (bench maker : List ℤ) (c : Setup) (o : Offer) (values : List ℤ) (m : Message) (P : Outcome (Unit {0}) → Type 0) where
-  pub first-in : P (refused 7) → P (refused 8) → P (refused 1) → P (refused 2) → P (refused 3) → P (refused 5) → P (refused 6) → P (gave tt) → P (first (causesIn bench maker c o values m))
-  unfolding causesIn
-  first-in = first-by c m _ P
+fits-each : (c : Setup) (m : Message) (s : Standing) → every (λ (x : Check). fitsCode (x .number)) (causes c m s) ≡ true
+unfolding every causes fitsCode isOneOf causesOfN silences
+fits-each c m s = refl
+
+-- under these sheets and values: the codes of a heard message
+pub code-ends : (bench maker : List ℤ) (c : Setup) (o : Offer) (values : List ℤ) (m : Message) (n : ℕ) → first (causesIn bench maker c o values m) ≡ refused n → (0 < n) × (n < 9)
+unfolding causesIn fitsCode
+code-ends bench maker c o values m n e =
+    let h = first-among fitsCode (causes c m _) n (fits-each c m _) e in
+    (ltb-true 0 n (search ands), ltb-true n 9 (search ands))
 
 -- a message for another card
 pub cause-other : (bench maker : List ℤ) (c : Setup) (o : Offer) (values : List ℤ) (m : Message) → isFor c m ≡ false → first (causesIn bench maker c o values m) ≡ refused 7
@@ -116,13 +118,32 @@ module _ (o : Offer) (m : Message) where
   granted-fits r v (body.Set x) = fits-accepted _ offered-other
   granted-fits r v body.Store = fits-accepted _ accepted-other
 
+  -- what a cause leads to
+  turned-fits : (x : Content) (n : ℕ) → fitsCode n ≡ true → Fits (turnedDown o m x n .said) n
+  unfolding turnedDown fitsCode
+  turned-fits x n h =
+      by-test (eqb n 7)
+      (λ t. rw t (silent (sym (rw t) ∙ rest)))
+      (λ t. by-test (eqb n 8) (λ u. rw (t, u) (silent (sym (rw (t, u)) ∙ rest))) (λ u. rw (t, u) (declined (sym (rw (t, u)) ∙ rest))))
+    where
+      rest : cond (eqb n 7 || eqb n 8) (isOneOf n silences && not (isOneOf n causesOfN)) (isOneOf n causesOfN && not (isOneOf n silences)) ≡ true
+      rest = search ands
+
+      some : n ≡ 0 → ⊥
+      some z = omega (arith, z, ltb-true 0 n (search ands))
+
+      silent : (isOneOf n silences && not (isOneOf n causesOfN)) ≡ true → Fits Silence n
+      silent e = fits-silence n some (not-is {a = isOneOf n causesOfN} (search ands)) (search ands)
+
+      declined : (isOneOf n causesOfN && not (isOneOf n silences)) ≡ true → Fits (says m Declined x .said) n
+      declined e = says-declined x n some (search ands) (not-is {a = isOneOf n silences} (search ands))
+
   -- what the tests come to
   judged-fits : (c : Setup) (s : Standing) (x : Content) (y : Effect) → Fits (y .said) 0 → Fits (decided (first (causes c m s)) (turnedDown o m x) y .said) (because (first (causes c m s)) .code)
-  unfolding turnedDown isOneOf causesOfN silences
   judged-fits c s x y h =
-      first-by c m s (λ (r : Outcome (Unit {0})). Fits (decided r (turnedDown o m x) y .said) (because r .code))
-      (fits-silence 7 (λ z. omega arith) refl refl) (fits-silence 8 (λ z. omega arith) refl refl) (says-declined x 1 (λ z. omega arith) refl refl) (says-declined x 2 (λ z. omega arith) refl refl)
-      (says-declined x 3 (λ z. omega arith) refl refl) (says-declined x 5 (λ z. omega arith) refl refl) (says-declined x 6 (λ z. omega arith) refl refl) h
+      by-first (causes c m s)
+      (λ n e. rw e (turned-fits x n (first-among fitsCode (causes c m s) n (fits-each c m s) e)))
+      (λ e. rw e h)
 
 -- any message
 pub act-fits : (bench maker : List ℤ) (c : Setup) (o : Offer) (values : List ℤ) (m : Message)

@@ -69,14 +69,18 @@ unfoldable pub isOffered : Offer → ℕ → Bool
 isOffered (Held j z) i = eqb j i
 isOffered Nothing i = false
 
+-- one step to the value z, where the row r is there or not: "if the row is read and write and the result is in range"
+abbrev pub movesTo : Bool → Row → ℤ → Standing
+movesTo there r z = stands true there (isReadWrite r) true true (inRange (r .least) z (r .greatest))
+
 -- a message with the identifier i, where the row r is there or not, and the value is v. Type 2 `?`: "if the row exists and isn't write only";
--- `+`, `-`: "if the row is read and write and the result is in range"; Type 3: "if the row exists, isn't read only, the decimals equal the row's,
--- and the number is in range"; Type 4: "if the offer is for this identifier"
+-- Type 3: "if the row exists, isn't read only, the decimals equal the row's, and the number is in range"; Type 4: "if the offer is for this
+-- identifier"
 unfoldable pub standing : Bool → Row → Offer → ℤ → ℕ → Body → Standing
 standing there r o v i body.Status = stands true true true true true true
 standing there r o v i body.Query = stands true there (isReadable r) true true true
-standing there r o v i body.Up = stands true there (isReadWrite r) true true (inRange (r .least) (raised v (r .step)) (r .greatest))
-standing there r o v i body.Down = stands true there (isReadWrite r) true true (inRange (r .least) (lowered v (r .step)) (r .greatest))
+standing there r o v i body.Up = movesTo there r (raised v (r .step))
+standing there r o v i body.Down = movesTo there r (lowered v (r .step))
 standing there r o v i (body.Set x) =
     stands true there (isWritable r) (eqb (x .decimals) (r .decimals)) (inRange (r .least) (x .number) (r .greatest)) true
 standing there r o v i body.Store = stands (isOffered o i) true true true true true
@@ -86,7 +90,7 @@ abbrev pub onEntry : Entry → Offer → ℤ → ℕ → Body → Standing
 onEntry e o v i b = standing (isFound e) (rowOrZeros e) o v i b
 
 -- a message on `]`, where the card names some identifiers for its scan or none: "For `]` the cause is access, or no such identifier on a card
--- without a scan"; a Type 4 never has its offer there
+-- without a scan"; a Type 4 never has its offer there, and Type 1 is never on it
 unfoldable pub onBracket : Bool → Body → Standing
 onBracket some body.Status = stands true some false true true true
 onBracket some body.Query = stands true some true true true true

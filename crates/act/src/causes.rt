@@ -4,9 +4,9 @@ ghost use mathlib.Core.Bool.{true};
 ghost use lib.IntN.{pos};
 ghost use lib.ListN.{getD};
 ghost use Rattle.refusal.specs.Check.{first};
-ghost use Rattle.number.specs.Number.{inRange, raised, lowered};
+ghost use Rattle.number.specs.Number.{inRange};
 ghost use Rattle.sheet.specs.Inner.{entryAt};
-ghost use Rattle.act.specs.Cause.{whyOf, causeCode, stands, rowOrZeros, isFound, isOffered, onEntry, onBracket, causes, because};
+ghost use Rattle.act.specs.Cause.{whyOf, causeCode, stands, rowOrZeros, isFound, isOffered, movesTo, onEntry, onBracket, causes, because};
 ghost use Rattle.act.specs.Inner.{scanCauses, rowCauses};
 use crate::Offer;
 use crate::Setup;
@@ -179,18 +179,13 @@ fn within_row(row: Row, x: i32) -> bool
     number::in_range(row.least, x, row.greatest)
 }
 
-// Whether a step up stays in range.
-fn can_rise(row: Row, value: i32) -> bool
-    ensures { λ r. ⌜ r ≡ inRange (row .least) (raised value (row .step)) (row .greatest) ⌝ }
+// One step to the next value.
+fn moves_to(entry: Entry, row: Row, next: i32) -> Standing
+    ensures { λ r. ⌜ r ≡ movesTo (isFound entry) row next ⌝ }
 {
-    within_row(row, number::raised(value, row.step))
-}
-
-// Whether a step down does.
-fn can_fall(row: Row, value: i32) -> bool
-    ensures { λ r. ⌜ r ≡ inRange (row .least) (lowered value (row .step)) (row .greatest) ⌝ }
-{
-    within_row(row, number::lowered(value, row.step))
+    let allowed = sheet::is_read_write(row);
+    let reachable = within_row(row, next);
+    asks(entry, allowed, true, true, reachable)
 }
 
 // A message on an identifier with this entry and value, by its type.
@@ -201,20 +196,8 @@ fn on_entry(entry: Entry, offer: Offer, value: i32, identifier: u8, body: Body) 
     match body {
         Body::Status => asks_offer(true),
         Body::Query => asks(entry, sheet::is_readable(row), true, true, true),
-        Body::Up => asks(
-            entry,
-            sheet::is_read_write(row),
-            true,
-            true,
-            can_rise(row, value),
-        ),
-        Body::Down => asks(
-            entry,
-            sheet::is_read_write(row),
-            true,
-            true,
-            can_fall(row, value),
-        ),
+        Body::Up => moves_to(entry, row, number::raised(value, row.step)),
+        Body::Down => moves_to(entry, row, number::lowered(value, row.step)),
         Body::Set(x) => asks(
             entry,
             sheet::is_writable(row),

@@ -10,7 +10,7 @@ use lib.IntN.{ℤ}
 use lib.ListN.{length, take}
 use Rattle.refusal.specs.Refusal.{Outcome, refused, gave}
 use Rattle.refusal.specs.Check.{Check, first}
-use Rattle.refusal.proofs.Checks.{refused-gave, refused-is, first-given, given-first, first-passed, passed-first}
+use Rattle.refusal.proofs.Checks.{refused-gave, refused-is, first-given, given-first, first-passed, passed-first, by-first}
 use Rattle.wire.proofs.Words.{valid-first, travelling-length}
 use Rattle.message.specs.declared.Message.{Message}
 use Rattle.message.specs.declared.Parsed.{Parsed}
@@ -34,7 +34,7 @@ use Rattle.act.specs.declared.Said.the-variants.{Silence, Reply}
 use Rattle.act.specs.declared.causes.Cause.the-variants.{None, NoMessageClosed, NotWellFormed}
 use Rattle.act.specs.Cause.{Why, why, whyOf, because, causesOfN, silences, isOneOf}
 use Rattle.act.specs.Act.{causesIn}
-use Rattle.act.proofs.Fits.{first-in, Fits}
+use Rattle.act.proofs.Fits.{code-ends, Fits}
 use Rattle.card.specs.declared.Card.{Card}
 use Rattle.card.specs.Turn.{turn}
 use Rattle.card.specs.Cause.{whyTo}
@@ -69,22 +69,19 @@ module _ (bench maker : List ℤ) (c : Card) (values : List ℤ) where
   tests m = causesIn bench maker (c .setup) (c .offer) values m
 
   -- no code of a test is 0
-  none-is : (m : Message) → (because (first (tests m)) ≡ whyOf None) ↔ (first (tests m) ≡ gave tt)
-  none-is m =
-      first-in bench maker (c .setup) (c .offer) values m Alike
-      (some 7 (omega arith)) (some 8 (omega arith)) (some 1 (omega arith)) (some 2 (omega arith)) (some 3 (omega arith)) (some 5 (omega arith)) (some 6 (omega arith)) (λ e. refl, λ e. refl)
+  none-is : (m : Message) → Alike (first (tests m))
+  none-is m = by-first (tests m) (λ n e. rw e (some n (code-ends bench maker (c .setup) (c .offer) values m n e .0))) (λ e. rw e (λ q. refl, λ q. refl))
 
   zero-is : (m : Message) → because (first (tests m)) .code ≡ 0 → because (first (tests m)) ≡ whyOf None
   zero-is m =
-      first-in bench maker (c .setup) (c .offer) values m (λ (o : Outcome (Unit {0})). because o .code ≡ 0 → because o ≡ whyOf None)
-      (λ e. absurd (omega (arith, e))) (λ e. absurd (omega (arith, e))) (λ e. absurd (omega (arith, e))) (λ e. absurd (omega (arith, e)))
-      (λ e. absurd (omega (arith, e))) (λ e. absurd (omega (arith, e))) (λ e. absurd (omega (arith, e))) (λ e. refl)
+      by-first (tests m)
+      (λ n e. rw e (λ q. absurd (omega (arith, q, code-ends bench maker (c .setup) (c .offer) values m n e .0))))
+      (λ e. rw e (λ q. refl))
 
   -- nor any above 8
   test-below : (m : Message) → because (first (tests m)) .code ≤ 8
   test-below m =
-      first-in bench maker (c .setup) (c .offer) values m (λ (o : Outcome (Unit {0})). because o .code ≤ 8)
-      (omega arith) (omega arith) (omega arith) (omega arith) (omega arith) (omega arith) (omega arith) (omega arith)
+      by-first (tests m) (λ n e. rw e (omega (arith, code-ends bench maker (c .setup) (c .offer) values m n e .1))) (λ e. rw e (omega arith))
 
   -- ---- a word by what it closes
 

@@ -1,11 +1,12 @@
 -- The first test that holds, in both directions, and of two lists of tests. Assumes nothing.
 use mathlib.Core.Path.{_≡_, refl, sym, ap, _∙_}
 use mathlib.Core.Logic.{_↔_}
-use mathlib.Core.Bool.{true, false}
+use mathlib.Core.Bool.{Bool, true, false}
 use mathlib.Core.List.{List, [], _∷_, _++_}
 use Prim.Native.Nat.{ℕ}
 use native.Mathlib.Omega.{arith}
-use Rattle.refusal.proofs.Logic.{by-test}
+use Rattle.refusal.proofs.Logic.{ands, by-test}
+use Rattle.refusal.specs.Lists.{every}
 use Rattle.refusal.specs.Refusal.{Outcome, refused, gave}
 use Rattle.refusal.specs.Check.{Check, first, decided, Given, here, later, Passed, end, next}
 
@@ -81,3 +82,12 @@ by-first {X} cs f g = go (first cs) refl
     go : (o : Outcome (Unit {0})) → first cs ≡ o → X
     go (refused n) e = f n e
     go (gave tt) e = g e
+
+-- what is true of every number of the list is true of the one that is given
+pub first-among : (f : ℕ → Bool) (cs : List Check) (n : ℕ) → every (λ (c : Check). f (c .number)) cs ≡ true → first cs ≡ refused n → f n ≡ true
+unfolding every
+first-among f [] n e q = absurd (refused-gave (sym q ∙ first-none))
+first-among f (c ∷ cs) n e q =
+    by-test (c .holds)
+    (λ t. ap f (sym (refused-is (sym (first-holds c cs t) ∙ q))) ∙ search ands)
+    (λ t. first-among f cs n (search ands) (sym (first-passes c cs t) ∙ q))

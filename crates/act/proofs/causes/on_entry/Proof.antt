@@ -4,10 +4,10 @@ use mathlib.Core.Bool.{Bool, true}
 use lib.Dec.{eqb}
 use lib.IntN.{ℤ}
 use Rattle.number.specs.Number.{inRange, raised, lowered}
-use Rattle.number.proofs.Signed.{rd-is}
+use Rattle.number.proofs.Signed.{rd-is, rd-ok}
 use Rattle.sheet.specs.declared.Row.{Row}
-use Rattle.sheet.specs.Values.{isReadable, isWritable, isReadWrite}
-use Rattle.act.specs.Cause.{stands, isFound, standing}
+use Rattle.sheet.specs.Values.{isReadable, isWritable}
+use Rattle.act.specs.Cause.{stands, isFound, movesTo, standing}
 use borrow.Author.Needs.{needs}
 use Rattle.act.proofs.causes.on_entry.Statement.{statement}
 use Rattle.act.proofs.causes.on_entry.Tie as tie
@@ -28,28 +28,30 @@ returns-2 c =
 returns-3 : tie.Need-returns-3
 unfolding standing
 returns-3 c =
-    let q = c .before in
-    let a = q .before in
-    let t = a .before .before .before in
+    let k = c .before .before in
+    let t = k .before .before .before in
     let s = t .before in
-    c .asks2 .ensures
-    ∙ ap₂ (λ (b z : Bool). stands true (isFound (s .args .entry)) b true true z) (a .is-read-write .ensures)
-    (q .can-rise .ensures ∙ ap (λ (v : ℤ). inRange (t .row-or-zeros .result .least) (raised v (t .row-or-zeros .result .step)) (t .row-or-zeros .result .greatest)) (rd-is (s .fits .value)))
-    ∙ ap (λ (r : Row). stands true (isFound (s .args .entry)) (isReadWrite r) true true (inRange (r .least) (raised (s .args .value) (r .step)) (r .greatest))) (t .row-or-zeros .ensures)
-    ∙ sym (rw (a .before .enum-told3 .given .1))
+    let row = t .row-or-zeros .result in
+    let next = c .before .raised in
+    let step = rd-is {z = row .step} (record { sfits = k .struct-told .given .1 .1 .0 .1 }) in
+    c .moves-to .ensures
+    ∙ ap (movesTo (isFound (s .args .entry)) row) (rd-ok (next .result) (next .ok) ∙ next .ensures ∙ ap₂ raised (rd-is (s .fits .value)) step)
+    ∙ ap (λ (r : Row). movesTo (isFound (s .args .entry)) r (raised (s .args .value) (r .step))) (t .row-or-zeros .ensures)
+    ∙ sym (rw (k .before .enum-told3 .given .1))
 
 returns-4 : tie.Need-returns-4
 unfolding standing
 returns-4 c =
-    let q = c .before in
-    let a = q .before in
-    let t = a .before .before .before in
+    let k = c .before .before in
+    let t = k .before .before .before in
     let s = t .before in
-    c .asks3 .ensures
-    ∙ ap₂ (λ (b z : Bool). stands true (isFound (s .args .entry)) b true true z) (a .is-read-write2 .ensures)
-    (q .can-fall .ensures ∙ ap (λ (v : ℤ). inRange (t .row-or-zeros .result .least) (lowered v (t .row-or-zeros .result .step)) (t .row-or-zeros .result .greatest)) (rd-is (s .fits .value)))
-    ∙ ap (λ (r : Row). stands true (isFound (s .args .entry)) (isReadWrite r) true true (inRange (r .least) (lowered (s .args .value) (r .step)) (r .greatest))) (t .row-or-zeros .ensures)
-    ∙ sym (rw (a .before .enum-told4 .given .1))
+    let row = t .row-or-zeros .result in
+    let next = c .before .lowered in
+    let step = rd-is {z = row .step} (record { sfits = k .struct-told2 .given .1 .1 .0 .1 }) in
+    c .moves-to2 .ensures
+    ∙ ap (movesTo (isFound (s .args .entry)) row) (rd-ok (next .result) (next .ok) ∙ next .ensures ∙ ap₂ lowered (rd-is (s .fits .value)) step)
+    ∙ ap (λ (r : Row). movesTo (isFound (s .args .entry)) r (lowered (s .args .value) (r .step))) (t .row-or-zeros .ensures)
+    ∙ sym (rw (k .before .enum-told4 .given .1))
 
 returns-5 : tie.Need-returns-5
 unfolding standing
@@ -61,9 +63,9 @@ returns-5 c =
     let s = t .before in
     let row = t .row-or-zeros .result in
     let x = k .body .given .0 .0 in
-    c .asks4 .ensures
+    c .asks2 .ensures
     ∙ ap₂ (λ (b z : Bool). stands true (isFound (s .args .entry)) b (eqb (x .decimals) (row .decimals)) z true) (a .is-writable .ensures)
-    (w .within-row .ensures ∙ ap (λ (n : ℤ). inRange (row .least) n (row .greatest)) (rd-is {z = x .number} (record { sfits = w .before .struct-told .given .0 .1 })))
+    (w .within-row .ensures ∙ ap (λ (n : ℤ). inRange (row .least) n (row .greatest)) (rd-is {z = x .number} (record { sfits = w .before .struct-told3 .given .0 .1 })))
     ∙ ap (λ (r : Row). stands true (isFound (s .args .entry)) (isWritable r) (eqb (x .decimals) (r .decimals)) (inRange (r .least) (x .number) (r .greatest)) true) (t .row-or-zeros .ensures)
     ∙ sym (rw (k .body .given .1))
 
@@ -76,7 +78,6 @@ returns-6 c =
 pub on-entry-spec : {M : Type 1} → statement M
 on-entry-spec = tie.close (tie.spec
     (λ c κs. search needs) (λ c. search needs) (λ c κs. search needs) (λ c. search needs) (λ c κs. search needs) (λ c κs. search needs)
+    (λ c. search needs) (λ c κs. search needs) (λ c κs. search needs) (λ c. search needs) (λ c κs. search needs) (λ c κs. search needs)
     (λ c. search needs) (λ c κs. search needs) (λ c κs. search needs) (λ c κs. search needs) (λ c. search needs) (λ c κs. search needs)
-    (λ c κs. search needs) (λ c κs. search needs) (λ c. search needs) (λ c κs. search needs) (λ c κs. search needs)
-    (λ c κs. search needs) (λ c. search needs) (λ c κs. search needs) (λ c κs. search needs) returns returns-2 returns-3 returns-4
-    returns-5 returns-6)
+    (λ c κs. search needs) returns returns-2 returns-3 returns-4 returns-5 returns-6)
