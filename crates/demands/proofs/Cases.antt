@@ -1,14 +1,17 @@
 -- The bench cases, by computing: this file alone of demands opens the definitions of every crate, since it computes them.
 -- Assumes nothing.
 use mathlib.Core.Path.{_≡_, refl}
-use mathlib.Core.Bool.{Bool, true, _&&_}
+use mathlib.Core.Bool.{Bool, true, _&&_, _||_}
 use mathlib.Core.List.{List, []}
 use lib.Count.{ones, onesIn}
-use lib.IntN.{pos}
+use Prim.Native.Nat.{ℕ}
+use lib.Dec.{eqb}
+use lib.IntN.{ℤ, pos}
 use lib.ListN.{length}
 use Rattle.refusal.specs.Lists.{every, same}
 use Rattle.refusal.specs.Buffer.{laid}
-use Rattle.refusal.specs.Check.{first}
+use Rattle.refusal.specs.Check.{Check, first}
+use Rattle.refusal.proofs.Logic.{allBelow}
 use Rattle.wire.specs.Text.{chars}
 use Rattle.wire.specs.Word.{evenParity, withParity, received, travelling, validWords}
 use Rattle.number.specs.Number.{inRange, isMultiple, cutDown, cut, raised, lowered}
@@ -25,15 +28,19 @@ use Rattle.sheet.specs.Lookup as lookup
 use Rattle.sheet.specs.Values.{numbersOf, entryOf, entryIn, isReadable, isReadableEntry, isWritable, isReadWrite, fitsRow, fitsPlace, soundFrom, soundValues}
 use Rattle.reply.specs.Reply.{spellScan, spellContent, spellAnswer, isNoNumber, fitsContent, isAnswer}
 use Rattle.reply.specs.Read.{charactersOf, guessMark, readOrZero, decimalAt, guessContent, guessBehind, guess, isReply, readCall}
+use Rattle.message.specs.declared.Message.{Message}
+use Rattle.act.specs.declared.Setup.{Setup}
+use Rattle.act.specs.declared.Offer.{Offer}
 use Rattle.act.specs.declared.Offer.the-variants.{Nothing}
-use Rattle.act.specs.Cause.{isFor, isOffered, standing, onBracket, causes}
+use Rattle.act.specs.declared.causes.Cause.the-variants.{None, NoMessageClosed, NotWellFormed}
+use Rattle.act.specs.Cause.{why, whyOf, isFor, isOffered, standing, onBracket, causes}
 use Rattle.act.specs.Act.{namesFrom, valueOf, scanOf, says, accepts, shownBy, offers, granted, turnedDown, respond, act, causesIn}
 use Rattle.card.specs.Turn.{effectOf, turned, turn, stored, play}
 use Rattle.card.specs.Cause.{whyClosed, whyAfter, whyTo}
 use Rattle.card.specs.Refusals.{soundScan, soundSetup, soundCard, offerable, soundOffer, cardChecks, stepChecks}
 use Rattle.card.specs.Calls.{stepCall, runCall}
 use Rattle.demands.specs.Terms.{Sound}
-use Rattle.demands.specs.Causes.{sameWhy, gaveCause, drawsIt, causeCases, everyCause, hasCase}
+use Rattle.demands.specs.Causes.{sameWhy, isAmong, gaveCause, drawsIt, causeCases, everyCause, hasCase}
 use Rattle.demands.specs.Bench.{benchRows, benchValues, benchCard, Case, benchCases, twentyNeighbours, moreCases, scanCases, noReplies, timeRow, scanValues, scanCard, equalZ, took, answersAll, passes, passesScan, isNoReply}
 
 -- what a table computes through
@@ -70,8 +77,25 @@ unfolding computed causesIn whyClosed whyAfter whyTo isWrong matched position st
 each-drawn = refl
 
 pub all-cases : every hasCase everyCause ≡ true
-unfolding computed sameWhy causeCases everyCause hasCase
+unfolding computed sameWhy isAmong causeCases everyCause hasCase
 all-cases = refl
+
+-- every code that is given is among them: those of the tests, none, no message closed, and each position
+pub tests-known : (bench maker : List ℤ) (c : Setup) (o : Offer) (values : List ℤ) (m : Message) → every (λ (x : Check). isAmong (why (x .number) 0) everyCause) (causesIn bench maker c o values m) ≡ true
+unfolding computed causesIn sameWhy isAmong everyCause
+tests-known bench maker c o values m = refl
+
+pub none-known : isAmong (whyOf None) everyCause ≡ true
+unfolding computed sameWhy isAmong everyCause
+none-known = refl
+
+pub open-known : isAmong (whyOf NoMessageClosed) everyCause ≡ true
+unfolding computed sameWhy isAmong everyCause
+open-known = refl
+
+pub places-known : allBelow 10 (λ (p : ℕ). eqb p 0 || isAmong (whyOf (NotWellFormed p)) everyCause) ≡ true
+unfolding computed sameWhy isAmong everyCause
+places-known = refl
 
 -- the claims on sound cards, sheets and values are not empty: those of the bench are sound
 sounds : Bool

@@ -2,26 +2,30 @@
 -- well-formed message could have there; and the reply is `N`, and silence, exactly with its causes. Assumes nothing.
 use mathlib.Core.Path.{_≡_, refl, sym, ap, _∙_, subst}
 use mathlib.Core.Logic.{_↔_}
-use mathlib.Core.Bool.{true}
+use mathlib.Core.Bool.{true, _||_}
 use mathlib.Core.List.{List, [], _∷_}
 use Prim.Native.Nat.{ℕ, _<_, _≤_}
 use native.Mathlib.Omega.{arith}
+use borrow.Author.Tests.{eqb-true}
+use lib.Dec.{eqb}
 use lib.IntN.{ℤ}
 use lib.ListN.{length, take}
 use Rattle.refusal.specs.Refusal.{Outcome, refused, gave}
+use Rattle.refusal.proofs.Logic.{or-cases, below}
 use Rattle.refusal.specs.Check.{Check, first}
-use Rattle.refusal.proofs.Checks.{refused-gave, refused-is, first-given, given-first, first-passed, passed-first, by-first}
+use Rattle.refusal.proofs.Checks.{refused-gave, refused-is, gave-is, first-given, given-first, first-passed, passed-first, by-first, first-among}
 use Rattle.wire.proofs.Words.{valid-first, travelling-length}
 use Rattle.message.specs.declared.Message.{Message}
 use Rattle.message.specs.declared.Parsed.{Parsed}
 use Rattle.message.specs.declared.Parsed.the-variants.{Heard, Unheard}
 use Rattle.message.specs.Prefix.{parse}
-use Rattle.message.specs.Position.{position, Impossible}
+use Rattle.message.specs.Position.{position, WellFormed, Impossible}
 use Rattle.message.proofs.Messages.{Plain}
-use Rattle.message.proofs.Completion.{position-is, position-only, well-formed-is, position-least, position-most}
+use Rattle.message.proofs.Completion.{position-is, position-only, well-formed, well-formed-heard, well-formed-is, position-least, position-most}
 use Rattle.hearing.specs.declared.Action.{Action}
 use Rattle.hearing.specs.declared.Action.the-variants.{Ignore, Open, Add, Close, Drop}
-use Rattle.hearing.specs.Hearing.{openOf, actionOf}
+use Rattle.hearing.specs.Hearing.{openOf, actionOf, hear}
+use Rattle.hearing.proofs.Quiet.{close-hears, heard-close}
 use Rattle.hearing.proofs.Sound.{open-plain, open-most, open-begins}
 use Rattle.reply.specs.declared.Answer.{Answer}
 use Rattle.reply.specs.declared.Mark.the-variants.{Declined}
@@ -43,9 +47,9 @@ use Rattle.card.proofs.Causes.{closed-heard, why-heard, why-close, why-unheard,
 use Rattle.card.proofs.Steps.{StepServed, served-step, passed-sound}
 use Rattle.card.proofs.Sounds.{card-parts}
 use Rattle.demands.specs.Terms.{Sound, saidTo}
-use Rattle.demands.specs.Causes.{Closes, asSent, Gives, CauseExact, Causes}
+use Rattle.demands.specs.Causes.{everyCause, isAmong, Closes, asSent, Gives, CauseExact, Causes}
 use Rattle.demands.proofs.Answers.{reply-reads, reply-silent}
-use Rattle.demands.proofs.Cases.{each-drawn, all-cases}
+use Rattle.demands.proofs.Cases.{each-drawn, all-cases, tests-known, none-known, open-known, places-known}
 
 -- ---- codes
 
@@ -54,15 +58,19 @@ because-is : (o : Outcome (Unit {0})) (n : ℕ) → 0 < n → (because o ≡ why
 because-is (refused k) n h = (λ e. ap refused (ap (λ (y : Why). y .code) e), λ e. ap (λ (j : ℕ). why j 0) (refused-is e))
 because-is (gave tt) n h = (λ e. absurd (omega (arith, ap (λ (y : Why). y .code) e)), λ e. absurd (refused-gave (sym e)))
 
-same-answer : {x y : Answer} → gave x ≡ gave y → x ≡ y
-same-answer e = cc
-
 -- none is given exactly when no test holds
 abbrev Alike : Outcome (Unit {0}) → Type 0
 Alike o = (because o ≡ whyOf None) ↔ (o ≡ gave tt)
 
 some : (n : ℕ) → 0 < n → Alike (refused n)
 some n h = (λ e. absurd (omega (arith, ap (λ (y : Why). y .code) e)), λ e. absurd (refused-gave e))
+
+-- every position from 1 to 9 is one of a cause
+place-known : (p : ℕ) → 1 ≤ p → p ≤ 9 → isAmong (whyOf (NotWellFormed p)) everyCause ≡ true
+place-known p l h =
+    or-cases (eqb p 0) (isAmong (whyOf (NotWellFormed p)) everyCause)
+    (below 10 (λ (k : ℕ). eqb k 0 || isAmong (whyOf (NotWellFormed k)) everyCause) places-known p (omega arith))
+    (λ t. absurd (omega (arith, eqb-true p 0 t))) (λ t. t)
 
 module _ (bench maker : List ℤ) (c : Card) (values : List ℤ) where
   abbrev tests : Message → List Check
@@ -82,6 +90,12 @@ module _ (bench maker : List ℤ) (c : Card) (values : List ℤ) where
   test-below : (m : Message) → because (first (tests m)) .code ≤ 8
   test-below m =
       by-first (tests m) (λ n e. rw e (omega (arith, code-ends bench maker (c .setup) (c .offer) values m n e .1))) (λ e. rw e (omega arith))
+
+  test-known : (m : Message) → isAmong (because (first (tests m))) everyCause ≡ true
+  test-known m =
+      by-first (tests m)
+      (λ n e. rw e (first-among (λ (k : ℕ). isAmong (why k 0) everyCause) (tests m) n (tests-known bench maker (c .setup) (c .offer) values m) e))
+      (λ e. rw e none-known)
 
   -- ---- a word by what it closes
 
@@ -141,9 +155,6 @@ module _ (bench maker : List ℤ) (c : Card) (values : List ℤ) where
 
       served-is : s ≡ record { bytes = length (turn bench maker c values w .reply); cause = whyTo bench maker c values w }
       served-is = gave-is (sym g ∙ ap (λ (a : After WordAnswer). a .outcome) (step-made .leaves))
-        where
-          gave-is : {x y : WordAnswer} → gave x ≡ gave y → x ≡ y
-          gave-is e = cc
 
       cause-is : s .cause ≡ whyTo bench maker c values w
       cause-is = ap (λ (x : WordAnswer). x .cause) served-is
@@ -176,14 +187,35 @@ module _ (bench maker : List ℤ) (c : Card) (values : List ℤ) where
             cause-is ∙ why-unheard bench maker c values w (i .0) (o .0) ∙ ap (λ (n : ℕ). whyOf (NotWellFormed n)) (sym (o .1)),
       )
 
+      place-ends : Closes c w → parse (openOf (c .pending)) ≡ Unheard → (1 ≤ position (openOf (c .pending))) × (position (openOf (c .pending)) ≤ 9)
+      place-ends k h =
+          let b = open-begins (c .pending) w (card-parts c (sound .card-sound) .is-open) k in (
+            subst (λ (xs : List ℕ). 1 ≤ position xs) (sym (b .is)) (position-least (b .letter) (b .rest) (b .is-letter)),
+            position-most (openOf (c .pending)) (open-most (c .pending) (card-parts c (sound .card-sound) .is-open)) h,
+          )
+
       ends : (p : ℕ) → s .cause ≡ whyOf (NotWellFormed p) → (1 ≤ p) × (p ≤ 9)
       ends p e =
           let i = position-of p .0 e in
           let o = position-only (openOf (c .pending)) plain p (i .1) in
-          let b = open-begins (c .pending) w (card-parts c (sound .card-sound) .is-open) (i .0) in
-          let least : 1 ≤ position (openOf (c .pending)) = subst (λ (xs : List ℕ). 1 ≤ position xs) (sym (b .is)) (position-least (b .letter) (b .rest) (b .is-letter)) in
-          let most = position-most (openOf (c .pending)) (open-most (c .pending) (card-parts c (sound .card-sound) .is-open)) (o .0) in
-          (omega (arith, o .1, least), omega (arith, o .1, most))
+          let b = place-ends (i .0) (o .0) in
+          (omega (arith, o .1, b .0), omega (arith, o .1, b .1))
+
+      known-is : isAmong (s .cause) everyCause ≡ true
+      known-is =
+          rw cause-is
+          (by-closed
+          (λ m k h. rw (why-close bench maker c values w k ∙ closed-heard bench maker (c .setup) (c .offer) values (openOf (c .pending)) (parse (openOf (c .pending))) m h) (test-known m))
+          (λ k h. let b = place-ends k h in rw (why-unheard bench maker c values w k h) (place-known (position (openOf (c .pending))) (b .0) (b .1)))
+          (λ f. rw (why-none bench maker c values w f) open-known))
+
+      heard-is : ((m : Message) × (hear (c .pending) w .message ≡ Heard m)) ↔ (Closes c w × WellFormed (asSent c))
+      heard-is = (
+        λ d.
+            let k = heard-close (c .pending) w (d .0) (d .1) in
+            (k, well-formed (openOf (c .pending)) plain (d .0) (sym (close-hears (c .pending) w k) ∙ d .1)),
+        λ d. let h = well-formed-heard (openOf (c .pending)) plain (d .1) in (h .0, close-hears (c .pending) w (d .0) ∙ h .1),
+      )
 
       -- ---- what is said
 
@@ -196,9 +228,6 @@ module _ (bench maker : List ℤ) (c : Card) (values : List ℤ) where
 
       count-is : {n : ℕ} → bytesOf (stepCall c bench maker values w out .outcome) ≡ gave n → s .bytes ≡ n
       count-is e = gave-is (sym (ap bytesOf g) ∙ e)
-        where
-          gave-is : {x y : ℕ} → gave x ≡ gave y → x ≡ y
-          gave-is q = cc
 
       -- a reply is read as what was said, and has some bytes; silence has none, and nothing is read in it
       replied : (a : Answer) → saidTo bench maker c values w ≡ Reply a → (readCall (take (s .bytes) buffer) ≡ gave a) × (0 < s .bytes)
@@ -224,7 +253,7 @@ module _ (bench maker : List ℤ) (c : Card) (values : List ℤ) where
       declined-is = (
         λ d. by-said
             (λ a e.
-            let q : a ≡ d .0 = same-answer (sym (replied a e .0) ∙ d .1) in
+            let q : a ≡ d .0 = gave-is (sym (replied a e .0) ∙ d .1) in
             fits .declined .0 (a, e, ap (λ (x : Answer). x .mark) q ∙ d .2))
             (λ e. absurd (nothing-read (d .0) (sym (ap (λ (n : ℕ). readCall (take n buffer)) (quiet e)) ∙ d .1))),
         λ t. let d = fits .declined .1 t in (d .0, replied (d .0) (d .1) .0, d .2),
@@ -234,7 +263,7 @@ module _ (bench maker : List ℤ) (c : Card) (values : List ℤ) where
       accepted-is = (
         λ d. by-said
             (λ a e.
-            let q : a ≡ d .0 = same-answer (sym (replied a e .0) ∙ d .1) in
+            let q : a ≡ d .0 = gave-is (sym (replied a e .0) ∙ d .1) in
             cause-is ∙ zero-none (sym (ap (λ (y : Why). y .code) cause-is) ∙ fits .accepted .0 (a, e, λ k. d .2 (sym (ap (λ (x : Answer). x .mark) q) ∙ k))))
             (λ e. absurd (nothing-read (d .0) (sym (ap (λ (n : ℕ). readCall (take n buffer)) (quiet e)) ∙ d .1))),
         λ t. let d = fits .accepted .1 (ap (λ (y : Why). y .code) t) in (d .0, replied (d .0) (d .1) .0, d .2),
@@ -248,6 +277,8 @@ module _ (bench maker : List ℤ) (c : Card) (values : List ℤ) where
 
       exact : CauseExact bench maker c values w out s
       exact = record {
+        known = known-is;
+        heard = heard-is;
         given = λ m n e h.
             let y = why-heard bench maker c values w m e in
             let b = because-is (first (tests m)) n h in

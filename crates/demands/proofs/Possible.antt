@@ -10,7 +10,7 @@ use borrow.Author.Tests.{eqb-true}
 use lib.Dec.{eqb, lit≤, lit<}
 use lib.IntN.{ℤ, pos}
 use lib.ListN.{length, getD, take, replicate}
-use Rattle.refusal.specs.Refusal.{gave}
+use Rattle.refusal.proofs.Checks.{gave-is}
 use Rattle.refusal.specs.Buffer.{laid}
 use Rattle.refusal.specs.Lists.{every}
 use Rattle.refusal.proofs.Logic.{and-both, by-test}
@@ -292,15 +292,12 @@ drawn-bytes : (bs : List ℕ) (a : Answer) → (d : Drawn bs a) → bs ≡ trave
 drawn-bytes bs a d =
     let t = turn (d .bench) (d .maker) (d .card) (d .values) (d .word) in
     let l = served-step (d .card) (d .bench) (d .maker) (d .values) (d .word) (d .out) (length bs) (d .gives) .leaves in
-    let k : length bs ≡ length (t .reply) = count (sym (d .gives) ∙ ap (λ (x : After WordAnswer). bytesOf (x .outcome)) l) in
+    let k : length bs ≡ length (t .reply) = gave-is (sym (d .gives) ∙ ap (λ (x : After WordAnswer). bytesOf (x .outcome)) l) in
     sym (d .bytes)
     ∙ ap (λ (x : After WordAnswer). take (length bs) (x .buffer)) l
     ∙ ap (λ (n : ℕ). take n (laid (t .reply) (d .out))) k
     ∙ laid-front (t .reply) (d .out)
     ∙ said-bytes (d .bench) (d .maker) (d .card) (d .values) (d .word) a (d .says)
-  where
-    count : {x y : ℕ} → gave x ≡ gave y → x ≡ y
-    count e = cc
 
 one-on-scan : (a : Answer) (x : Decimal) → isAnswer a ≡ true → a .identifier ≡ scanIdentifier → a .content ≡ Number x → (a .mark ≡ Declined) × (Number x ≡ noNumber)
 one-on-scan a x e i f =

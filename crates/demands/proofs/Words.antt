@@ -13,7 +13,7 @@ use Rattle.refusal.specs.Buffer.{laid}
 use Rattle.refusal.specs.Check.{first}
 use Rattle.refusal.specs.Call.{Call}
 use Rattle.refusal.proofs.Buffers.{laid-front, laid-nothing, laid-both}
-use Rattle.refusal.proofs.Checks.{first-none}
+use Rattle.refusal.proofs.Checks.{gave-is, first-none}
 use Rattle.refusal.proofs.Calls.{writes-all}
 use Rattle.wire.specs.Word.{travelling, validWords}
 use Rattle.wire.proofs.Words.{travelling-length, no-words-valid, word-valid, valid-first}
@@ -125,15 +125,12 @@ module _ (bench maker : List ℤ) (c : Card) (values : List ℤ) (w : ℕ) (ws o
         → let r : After Took = runCall (a .card) bench maker (a .values) ws (drop n out) in
         runCall c bench maker values (w ∷ ws) out ≡ record { card = r .card; outcome = oneMore n (r .outcome); values = r .values; buffer = take n (a .buffer) ++ r .buffer }
 
-    count : (k : ℕ) → gave k ≡ gave n → k ≡ n
-    count k g = cc
-
     by-turn : Takes (answered t (whyTo bench maker c values w) values room)
     by-turn g =
         subst (λ (k : ℕ). k ≤ length out → runCall c bench maker values (w ∷ ws) out
         ≡ let r : After Took = runCall (t .card) bench maker (stored values (t .store)) ws (drop k out) in
         record { card = r .card; outcome = oneMore k (r .outcome); values = r .values; buffer = take k (laid (t .reply) room) ++ r .buffer })
-        (count (length (t .reply)) g)
+        (gave-is g)
         (λ h. run-takes h ∙ (λ j. record { card = rest .card; outcome = oneMore (length (t .reply)) (rest .outcome); values = rest .values; buffer = sym (laid-front (t .reply) room) j ++ rest .buffer }))
 
     pub word-takes : Takes (stepCall c bench maker values w room)
@@ -141,7 +138,7 @@ module _ (bench maker : List ℤ) (c : Card) (values : List ℤ) (w : ℕ) (ws o
 
     pub word-stops : length out < n → runCall c bench maker values (w ∷ ws) out ≡ takesNone c values out
     word-stops h =
-        let k = count (length (t .reply)) (sym (ap (λ (a : After WordAnswer). bytesOf (a .outcome)) (served-step c bench maker values w room n e .leaves)) ∙ e) in
+        let k = gave-is (sym (ap (λ (a : After WordAnswer). bytesOf (a .outcome)) (served-step c bench maker values w room n e .leaves)) ∙ e) in
         run-stops (omega arith)
 
 pub run-steps : RunSteps

@@ -2,8 +2,8 @@
 -- input with which it is served: the cause, the bytes that it writes, and what the reader reads in them.
 use mathlib.Core.Path.{_≡_}
 use mathlib.Core.Logic.{_↔_}
-use mathlib.Core.Bool.{Bool, true, false, not, _&&_}
-use mathlib.Core.List.{List, [], _∷_, _++_}
+use mathlib.Core.Bool.{Bool, true, false, _&&_, _||_}
+use mathlib.Core.List.{List, [], _∷_, _++_, map}
 use Prim.Native.Nat.{ℕ, _-_, _≤_, _<_}
 use Prim.Native.String.{String}
 use lib.Dec.{eqb}
@@ -32,6 +32,24 @@ use Rattle.card.specs.declared.Card.{Card}
 use Rattle.card.specs.Calls.{After, WordAnswer, stepCall, Took, runCall}
 use Rattle.demands.specs.Bench.{benchRows, benchValues, scanCard}
 
+-- ---- the causes there are
+
+unfoldable pub everyCause : List Cause
+everyCause =
+    None ∷ NoSuchIdentifier ∷ Access ∷ WrongDecimals ∷ OutOfRange ∷ AtLimit ∷ NotForThisCard ∷ NoOffer ∷ NoMessageClosed
+    ∷ NotWellFormed 1 ∷ NotWellFormed 2 ∷ NotWellFormed 3 ∷ NotWellFormed 4 ∷ NotWellFormed 5 ∷ NotWellFormed 6 ∷ NotWellFormed 7 ∷ NotWellFormed 8 ∷ NotWellFormed 9
+    ∷ []
+
+unfoldable pub sameWhy : Why → Why → Bool
+sameWhy x y = eqb (x .code) (y .code) && eqb (x .position) (y .position)
+
+-- one of these, its position too
+unfoldable pub isAmong : Why → List Cause → Bool
+isAmong y [] = false
+isAmong y (x ∷ xs) = sameWhy y (whyOf x) || isAmong y xs
+
+-- ---- the cause that a word gives
+
 -- the word closes the open message; document 01: "`*` closes it"
 abbrev pub Closes : Card → ℕ → Type 0
 Closes c w = actionOf (c .pending) w ≡ Close
@@ -46,7 +64,11 @@ module _ (bench maker : List ℤ) (c : Card) (values : List ℤ) (w : ℕ) (out 
   Gives = stepCall c bench maker values w out .outcome ≡ gave s
 
   pub record CauseExact : Type 0 where
-    -- a message that is heard: a cause is given exactly when its test holds and none before it does, and none exactly when no test holds
+    -- no other is given
+    pub known : isAmong (s .cause) everyCause ≡ true
+    -- a message is heard exactly when the word closes one that is well formed
+    pub heard : ((m : Message) × (hear (c .pending) w .message ≡ Heard m)) ↔ (Closes c w × WellFormed (asSent c))
+    -- then a cause is given exactly when its test holds and none before it does, and none exactly when no test holds
     pub given : (m : Message) (n : ℕ) → hear (c .pending) w .message ≡ Heard m → 0 < n → (s .cause ≡ why n 0) ↔ Given n (causesIn bench maker (c .setup) (c .offer) values m)
     pub none : (m : Message) → hear (c .pending) w .message ≡ Heard m → (s .cause ≡ whyOf None) ↔ Passed (causesIn bench maker (c .setup) (c .offer) values m)
     -- "no message closed by this word"
@@ -73,7 +95,7 @@ pub record CauseCase : Type 0 where
 unfoldable pub draws : String → String → Cause → CauseCase
 draws names sent x = record { names = names; sent = sent; cause = x }
 
--- every cause, and every position
+-- every cause, and every position; the last four have several causes, and give the first
 unfoldable pub causeCases : List CauseCase
 unfolding draws
 causeCases =
@@ -100,21 +122,15 @@ causeCases =
     ∷ draws "" "L7m#003*" (NotWellFormed 7)
     ∷ draws "" "L7m#00304*" (NotWellFormed 8)
     ∷ draws "" "L7m#003011*" (NotWellFormed 9)
-    ∷ []
-
-unfoldable pub sameWhy : Why → Why → Bool
-sameWhy x y = eqb (x .code) (y .code) && eqb (x .position) (y .position)
-
--- all the causes there are
-unfoldable pub everyCause : List Cause
-everyCause =
-    None ∷ NoSuchIdentifier ∷ Access ∷ WrongDecimals ∷ OutOfRange ∷ AtLimit ∷ NotForThisCard ∷ NoOffer ∷ NoMessageClosed
-    ∷ NotWellFormed 1 ∷ NotWellFormed 2 ∷ NotWellFormed 3 ∷ NotWellFormed 4 ∷ NotWellFormed 5 ∷ NotWellFormed 6 ∷ NotWellFormed 7 ∷ NotWellFormed 8 ∷ NotWellFormed 9
+    ∷ draws "" "L8M+*" NotForThisCard
+    ∷ draws "" "L7M#20005*" Access
+    ∷ draws "" "L7Z-*" Access
+    ∷ draws "" "L7m#10030*" WrongDecimals
     ∷ []
 
 -- one of the cases has it
 unfoldable pub hasCase : Cause → Bool
-hasCase x = not (every (λ (y : CauseCase). not (sameWhy (whyOf (y .cause)) (whyOf x))) causeCases)
+hasCase x = isAmong (whyOf x) (map (λ (y : CauseCase). y .cause) causeCases)
 
 unfoldable pub gaveCause : Outcome WordAnswer → Why → Bool
 gaveCause (refused n) y = false
@@ -134,6 +150,6 @@ pub record Causes : Type 0 where
   pub exact : (bench maker : List ℤ) (c : Card) (values : List ℤ) (w : ℕ) (out : List ℕ) (s : WordAnswer) → Gives bench maker c values w out s → CauseExact bench maker c values w out s
   -- whatever the room
   pub same : (bench maker : List ℤ) (c : Card) (values : List ℤ) (w : ℕ) (out out′ : List ℕ) (s s′ : WordAnswer) → Gives bench maker c values w out s → Gives bench maker c values w out′ s′ → s ≡ s′
-  -- each of them is drawn from a sound card
+  -- each of the causes is drawn from a sound card
   pub each : every drawsIt causeCases ≡ true
   pub all : every hasCase everyCause ≡ true

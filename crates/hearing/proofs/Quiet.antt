@@ -12,11 +12,12 @@ use Rattle.wire.specs.Word.{received}
 use Rattle.message.specs.declared.Message.{Message}
 use Rattle.message.specs.declared.Parsed.the-variants.{Heard, Unheard}
 use Rattle.message.specs.Message.{isLetter}
+use Rattle.message.specs.Prefix.{parse}
 use Rattle.message.proofs.Short.{unheard}
 use Rattle.hearing.specs.declared.Pending.{Pending}
 use Rattle.hearing.specs.declared.Action.{Action}
 use Rattle.hearing.specs.declared.Action.the-variants.{Ignore, Open, Add, Close, Drop}
-use Rattle.hearing.specs.Hearing.{none, opening, continuing, actionOf, perform, hear, before, heardFrom}
+use Rattle.hearing.specs.Hearing.{none, openOf, opening, continuing, actionOf, perform, hear, before, heardFrom}
 
 -- what is heard by an action, and then
 heardBy : Pending → List ℕ → Action → List Message
@@ -53,15 +54,23 @@ heard-silence p ws =
     (λ t. rw t (heard-closed p (eqb-true (p .len) 0 t) ws))
     (λ t. rw t)
 
--- a message is heard with the word that closes it
-performed : (p : Pending) (a : Action) (m : Message) → perform p a .message ≡ Heard m → perform p a .pending ≡ none
+-- what was open is heard with the word that closes it, and nothing with any other
+pub close-hears : (p : Pending) (w : ℕ) → actionOf p w ≡ Close → hear p w .message ≡ parse (openOf p)
+unfolding hear perform
+close-hears p w e = ap (λ (a : Action). perform p a .message) e
+
+performed : (p : Pending) (a : Action) (m : Message) → perform p a .message ≡ Heard m → a ≡ Close
 unfolding perform
 performed p Ignore m e = absurd (unheard e)
 performed p (Open c) m e = absurd (unheard e)
 performed p (Add c) m e = absurd (unheard e)
 performed p Close m e = refl
-performed p Drop m e = refl
+performed p Drop m e = absurd (unheard e)
+
+pub heard-close : (p : Pending) (w : ℕ) (m : Message) → hear p w .message ≡ Heard m → actionOf p w ≡ Close
+unfolding hear
+heard-close p w m e = performed p (actionOf p w) m e
 
 pub heard-closes : (p : Pending) (w : ℕ) (m : Message) → hear p w .message ≡ Heard m → hear p w .pending ≡ none
-unfolding hear
-heard-closes p w m e = performed p (actionOf p w) m e
+unfolding hear perform
+heard-closes p w m e = ap (λ (a : Action). perform p a .pending) (heard-close p w m e)

@@ -91,7 +91,7 @@ unfolding extendAll
 all-append s [] ys = refl
 all-append s (x ∷ xs) ys = all-append (extend s x) xs ys
 
-pub right-possible : (xs : List ℕ) → isWrong (extendAll Start xs) ≡ false → Possible xs
+right-possible : (xs : List ℕ) → isWrong (extendAll Start xs) ≡ false → Possible xs
 unfolding parse
 right-possible xs e =
     let r = completion (extendAll Start xs) (known-scan Start xs tt) e in (
@@ -120,7 +120,7 @@ heard-right s ys m e =
     (λ t. absurd (unheard (sym (ap (λ (u : Prefix). leads u ys) (wrong-is s t) ∙ wrong-stays ys) ∙ e)))
     (λ t. t)
 
-pub possible-right : (xs : List ℕ) → Plain xs → Possible xs → isWrong (extendAll Start xs) ≡ false
+possible-right : (xs : List ℕ) → Plain xs → Possible xs → isWrong (extendAll Start xs) ≡ false
 unfolding parse
 possible-right xs p w =
     let r = split xs (w .0) (w .1 .characters) p (w .1 .closed) in
@@ -171,7 +171,7 @@ possible-take n xs w = (
 possible-shorter : (m n : ℕ) (xs : List ℕ) → m ≤ n → Possible (take n xs) → Possible (take m xs)
 possible-shorter m n xs h w = subst Possible (take-take m n xs h) (possible-take m (take n xs) w)
 
-pub impossible-once : (xs : List ℕ) (p q : ℕ) → Impossible xs p → Impossible xs q → p ≡ q
+impossible-once : (xs : List ℕ) (p q : ℕ) → Impossible xs p → Impossible xs q → p ≡ q
 impossible-once xs p q i j =
     by-test (ltb p q)
     (λ t. absurd (i .behind (possible-shorter (suc p) q xs (ltb-true p q t) (j .before))))
@@ -180,7 +180,7 @@ impossible-once xs p q i j =
     (λ u. absurd (j .behind (possible-shorter (suc q) p xs (ltb-true q p u) (i .before))))
     (λ u. omega (arith, ltb-false p q t, ltb-false q p u)))
 
-pub well-formed-never : (xs : List ℕ) → WellFormed xs → (p : ℕ) → Impossible xs p → ⊥
+well-formed-never : (xs : List ℕ) → WellFormed xs → (p : ℕ) → Impossible xs p → ⊥
 well-formed-never xs w p i = i .behind (possible-take (suc p) xs ([], subst WellFormed (sym (append-nil xs)) w))
 
 plain-take : (n : ℕ) (cs : List ℕ) → Plain cs → Plain (take n cs)
@@ -215,7 +215,7 @@ module _ (cs : List ℕ) (plain : Plain cs) where
       p : ℕ
       p = matched Start cs
 
-  well-formed : (m : Message) → parse cs ≡ Heard m → WellFormed (cs ++ (star ∷ []))
+  pub well-formed : (m : Message) → parse cs ≡ Heard m → WellFormed (cs ++ (star ∷ []))
   well-formed m e = record { characters = cs; message = m; closed = refl; heard = e }
 
   pub position-only : (p : ℕ) → Impossible (cs ++ (star ∷ [])) p → (parse cs ≡ Unheard) × (p ≡ position cs)
@@ -223,6 +223,10 @@ module _ (cs : List ℕ) (plain : Plain cs) where
       by-parsed (parse cs)
       (λ m e. absurd (well-formed-never (cs ++ (star ∷ [])) (well-formed m e) p i))
       (λ e. (e, impossible-once (cs ++ (star ∷ [])) p (position cs) i (position-is e)))
+
+  pub well-formed-heard : WellFormed (cs ++ (star ∷ [])) → (m : Message) × (parse cs ≡ Heard m)
+  well-formed-heard w =
+      by-parsed (parse cs) (λ m e. (m, e)) (λ e. absurd (well-formed-never (cs ++ (star ∷ [])) w (position cs) (position-is e)))
 
   pub well-formed-is : WellFormed (cs ++ (star ∷ [])) ↔ ((p : ℕ) → Impossible (cs ++ (star ∷ [])) p → ⊥)
   well-formed-is = (

@@ -14,6 +14,7 @@ use Rattle.message.specs.declared.Prefix.{Prefix}
 use Rattle.message.specs.declared.Prefix.the-variants.{Start, Letter, Digit, Address, Identifier, Digits, Complete, Wrong}
 use Rattle.message.specs.Prefix.{extend, extendAll}
 use Rattle.message.specs.Position.{isWrong, matched}
+use Rattle.message.proofs.Places.{wrong-all}
 
 -- ---- the one wrong state
 
@@ -46,11 +47,6 @@ module _ (s : Prefix) (cs : List ℕ) (i : ℕ) where
     matched-on e = rw (add-one, drop-cons cs i 0 h) (rw e)
 
 -- ---- the greatest number of characters that does not lead to the wrong state
-
-pub wrong-all : (cs : List ℕ) → extendAll Wrong cs ≡ Wrong
-unfolding extendAll extend
-wrong-all [] = refl
-wrong-all (c ∷ cs) = wrong-all cs
 
 pub matched-most : (s : Prefix) (cs : List ℕ) → matched s cs ≤ length cs
 unfolding matched

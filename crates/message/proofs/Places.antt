@@ -47,10 +47,14 @@ leads s cs = finish (extendAll s cs)
 
 -- ---- what is wrong stays wrong
 
+pub wrong-all : (cs : List ℕ) → extendAll Wrong cs ≡ Wrong
+unfolding extendAll extend
+wrong-all [] = refl
+wrong-all (c ∷ cs) = wrong-all cs
+
 pub wrong-stays : (cs : List ℕ) → leads Wrong cs ≡ Unheard
-unfolding extendAll extend finish
-wrong-stays [] = refl
-wrong-stays (c ∷ cs) = wrong-stays cs
+unfolding finish
+wrong-stays cs = ap finish (wrong-all cs)
 
 -- nothing stands behind a whole message
 pub nothing-behind : (m : Message) (cs : List ℕ) → 0 < length cs → leads (Complete m) cs ≡ Unheard

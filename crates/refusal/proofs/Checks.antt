@@ -17,6 +17,9 @@ refused-gave e = let z : _≡_ {A = ℕ} 0 1 = cc in omega arith
 pub refused-is : {A : Type 0} {k n : ℕ} → _≡_ {A = Outcome A} (refused k) (refused n) → k ≡ n
 refused-is e = cc
 
+pub gave-is : {A : Type 0} {x y : A} → _≡_ {A = Outcome A} (gave x) (gave y) → x ≡ y
+gave-is e = cc
+
 -- ---- one test more
 
 pub first-holds : (c : Check) (cs : List Check) → c .holds ≡ true → first (c ∷ cs) ≡ refused (c .number)
