@@ -72,7 +72,7 @@ extern "C" {
  * well-formed message could have there after those before it, counted from 0 at the letter, the '*'
  * counting as a character: 1 to 9 with KAV_CAUSE_NOT_WELL_FORMED, 0 with every other code.
  * On ']', a Type 2 or 3 answered 'N' has KAV_CAUSE_ACCESS at a card with a scan and
- * KAV_CAUSE_IDENTIFIER at one without; a Type 4 has KAV_CAUSE_NO_OFFER.
+ * KAV_CAUSE_IDENTIFIER at one without; a Type 4 for the card has KAV_CAUSE_NO_OFFER.
  * Refused with 1 (card), 2, 1 (offer and scan), 3, 4, 5, in this order; a cause shorter than two is number
  * 5, behind all the others.
  */

@@ -104,6 +104,7 @@ int main(void) {
     }
     check_text("reply", out, replied, "L7m00251A*");
     check("value", values['m'], 25);
+    cause[0] = cause[1] = -77;
     check("step with a part of a sheet",
           kav_step(card, KAV_CARD, bench, bench_length - 1, maker, 0, values, KAV_VALUES,
                    KAV_SILENCE, out, sizeof out, cause, KAV_CAUSE), -2);
@@ -119,7 +120,7 @@ int main(void) {
     check("step with a short cause",
           kav_step(card, KAV_CARD, bench, bench_length, maker, 0, values, KAV_VALUES,
                    KAV_SILENCE, out, sizeof out, cause, KAV_CAUSE - 1), -5);
-    check_cause("refused steps", cause, KAV_CAUSE_NONE, 0);
+    check_cause("refused steps", cause, -77, -77);
 
     /* Why a message drew 'N' or silence, each at a card afresh, then one with a scan. */
     const struct {
@@ -147,16 +148,18 @@ int main(void) {
         int32_t fresh[KAV_CARD] = {'L', 7};
         length = words_of(causes[which].sent, words);
         for (size_t at = 0; at < length; at++) {
-            kav_step(fresh, KAV_CARD, bench, bench_length, maker, 0, at_limit, KAV_VALUES,
-                     words[at], out, sizeof out, cause, KAV_CAUSE);
+            replied = kav_step(fresh, KAV_CARD, bench, bench_length, maker, 0, at_limit, KAV_VALUES,
+                               words[at], out, sizeof out, cause, KAV_CAUSE);
+            check("step for a cause", replied < 0, 0);
         }
         check_cause(causes[which].sent, cause, causes[which].code, causes[which].position);
     }
     int32_t scanning[KAV_CARD] = {'L', 7, 4, 'L', '7', ']', '+'};
     const int32_t four[] = {4, 'm', 'm', 'M', 'J'};
     memcpy(scanning + 16, four, sizeof four);
-    kav_step(scanning, KAV_CARD, bench, bench_length, maker, 0, values, KAV_VALUES,
-             0xAA, out, sizeof out, cause, KAV_CAUSE);
+    replied = kav_step(scanning, KAV_CARD, bench, bench_length, maker, 0, values, KAV_VALUES,
+                       0xAA, out, sizeof out, cause, KAV_CAUSE);
+    check_text("a scan's '+'", out, replied, "L7]00000N*");
     check_cause("a scan's '+'", cause, KAV_CAUSE_ACCESS, 0);
 
     /* Numbers that are no offer are judged after the sheets. */

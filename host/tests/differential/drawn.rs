@@ -1,4 +1,4 @@
-//! How often each cause and each position was drawn. One that never was is a failure of the tests themselves.
+//! How often the random groups drew each cause and each position. One that they never did is a failure of the tests themselves.
 
 /// Code and position.
 pub(crate) type Cause = [i32; 2];

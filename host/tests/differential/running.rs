@@ -19,7 +19,7 @@ struct Found {
     failure: Box<Failure>,
 }
 
-/// Runs a group over its numbers on all processors. Gives the count of cases, and counts the causes drawn.
+/// Runs a group over its numbers on all processors. Gives the count of cases, and counts the causes drawn at random.
 fn run_group(at: usize, seed: u64, numbers: u64, traced: bool, drawn: &Mutex<Drawn>) -> (u64, Option<Found>) {
     const BLOCK: u64 = 64;
     let group = &GROUPS[at];
@@ -50,7 +50,10 @@ fn run_group(at: usize, seed: u64, numbers: u64, traced: bool, drawn: &Mutex<Dra
                     }
                 }
                 count.fetch_add(bench.count, Ordering::Relaxed);
-                drawn.lock().unwrap().add(&bench.drawn);
+                // What is known beforehand is always drawn.
+                if group.random {
+                    drawn.lock().unwrap().add(&bench.drawn);
+                }
             });
         }
     });

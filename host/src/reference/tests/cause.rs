@@ -182,6 +182,10 @@ fn each_cause() {
         ("L7]#99998*", [Identifier, Identifier, Access, Access]),
         ("L", [NotClosed; 4]),
         ("L7m+", [NotClosed; 4]),
+        // However the message would be answered if it were closed.
+        ("L8m?", [NotClosed; 4]),
+        ("L8M!", [NotClosed; 4]),
+        ("L7mI", [NotClosed; 4]),
         ("*", [NotClosed; 4]),
         ("x", [NotClosed; 4]),
         ("L7M!*L7m+", [NotClosed; 4]),

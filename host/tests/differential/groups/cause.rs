@@ -10,7 +10,8 @@ pub(super) fn star() -> u16 {
     u16::from(gen::on_line(b'*'))
 }
 
-/// A `*` closes this message at a card. The cause is known; too little room for it or for the reply is number 5.
+/// A `*` closes this message at a card. The cause is known; too little room for it or for the reply is number 5. A
+/// silence in place of the `*` drops the message, and it has no cause but that none was closed.
 pub(super) fn close(
     rng: &mut Rng,
     mut world: World,
@@ -28,7 +29,7 @@ pub(super) fn close(
     for length in 2..4 {
         bench.expect_cause(Case::Step { world: lent.clone(), word: star(), room, cause: length }, cause)?;
     }
-    Ok(())
+    bench.expect_cause(Case::Step { world: lent, word: 256, room, cause: 2 }, [9, 0])
 }
 
 /// The bench cases' rows.
@@ -115,7 +116,9 @@ pub(crate) fn causes_known(rng: &mut Rng, number: u64, bench: &mut Bench) -> Che
     }
     close(rng, world.clone(), b"L7]?", if scanned { [0, 0] } else { [1, 0] }, bench)?;
     // First letters, added characters, every drop, and words with none open, `*` among them.
-    for (open, word) in [("", 0xCC), ("L7m", 0x2B), ("L", 0xCC), ("L7m+", 256), ("L7m+", 0x2A), ("", 0xAA)] {
+    for (open, word) in
+        [("", 0xCC), ("L7m", 0x2B), ("L8m?", 0x2B), ("L", 0xCC), ("L7m+", 256), ("L7m+", 0x2A), ("", 0xAA)]
+    {
         world.open_with(open.as_bytes());
         let lent: Lent = world.clone().into();
         bench.expect_cause(Case::Step { world: lent, word, room: 33, cause: 2 }, [9, 0])?;
