@@ -159,14 +159,14 @@ fn asks(entry: Entry, allowed: bool, matching: bool, within: bool, reachable: bo
     }
 }
 
-// Type 1 asks for nothing, Type 4 for an offer.
-fn asks_offer(offered: bool) -> Standing
-    ensures { λ r. ⌜ r ≡ stands offered true true true true true ⌝ }
+// No number is judged: Types 1 and 4, and any message on `]`.
+fn without_number(offered: bool, exists: bool, allowed: bool) -> Standing
+    ensures { λ r. ⌜ r ≡ stands offered exists allowed true true true ⌝ }
 {
     Standing {
         offered,
-        exists: true,
-        allowed: true,
+        exists,
+        allowed,
         matching: true,
         within: true,
         reachable: true,
@@ -194,7 +194,7 @@ fn on_entry(entry: Entry, offer: Offer, value: i32, identifier: u8, body: Body) 
 {
     let row = row_or_zeros(entry);
     match body {
-        Body::Status => asks_offer(true),
+        Body::Status => without_number(true, true, true),
         Body::Query => asks(entry, sheet::is_readable(row), true, true, true),
         Body::Up => moves_to(entry, row, number::raised(value, row.step)),
         Body::Down => moves_to(entry, row, number::lowered(value, row.step)),
@@ -205,21 +205,7 @@ fn on_entry(entry: Entry, offer: Offer, value: i32, identifier: u8, body: Body) 
             within_row(row, x.number),
             true,
         ),
-        Body::Store => asks_offer(is_offered(offer, identifier)),
-    }
-}
-
-// On `]` neither decimals nor a range are asked for.
-fn asks_scan(offered: bool, exists: bool, allowed: bool) -> Standing
-    ensures { λ r. ⌜ r ≡ stands offered exists allowed true true true ⌝ }
-{
-    Standing {
-        offered,
-        exists,
-        allowed,
-        matching: true,
-        within: true,
-        reachable: true,
+        Body::Store => without_number(is_offered(offer, identifier), true, true),
     }
 }
 
@@ -228,12 +214,12 @@ fn on_bracket(some: bool, body: Body) -> Standing
     ensures { λ r. ⌜ r ≡ onBracket some body ⌝ }
 {
     match body {
-        Body::Status => asks_scan(true, some, false),
-        Body::Query => asks_scan(true, some, true),
-        Body::Up => asks_scan(true, some, false),
-        Body::Down => asks_scan(true, some, false),
-        Body::Set(_) => asks_scan(true, some, false),
-        Body::Store => asks_scan(false, some, false),
+        Body::Status => without_number(true, some, false),
+        Body::Query => without_number(true, some, true),
+        Body::Up => without_number(true, some, false),
+        Body::Down => without_number(true, some, false),
+        Body::Set(_) => without_number(true, some, false),
+        Body::Store => without_number(false, some, false),
     }
 }
 

@@ -7,27 +7,27 @@ use Rattle.act.proofs.causes.on_bracket.Tie as tie
 
 returns : tie.Need-returns
 unfolding onBracket
-returns c = c .asks-scan .ensures ∙ sym (rw (c .before .enum-told .given .1))
+returns c = c .without-number .ensures ∙ sym (rw (c .before .enum-told .given .1))
 
 returns-2 : tie.Need-returns-2
 unfolding onBracket
-returns-2 c = c .asks-scan2 .ensures ∙ sym (rw (c .before .enum-told2 .given .1))
+returns-2 c = c .without-number2 .ensures ∙ sym (rw (c .before .enum-told2 .given .1))
 
 returns-3 : tie.Need-returns-3
 unfolding onBracket
-returns-3 c = c .asks-scan3 .ensures ∙ sym (rw (c .before .enum-told3 .given .1))
+returns-3 c = c .without-number3 .ensures ∙ sym (rw (c .before .enum-told3 .given .1))
 
 returns-4 : tie.Need-returns-4
 unfolding onBracket
-returns-4 c = c .asks-scan4 .ensures ∙ sym (rw (c .before .enum-told4 .given .1))
+returns-4 c = c .without-number4 .ensures ∙ sym (rw (c .before .enum-told4 .given .1))
 
 returns-5 : tie.Need-returns-5
 unfolding onBracket
-returns-5 c = c .asks-scan5 .ensures ∙ sym (rw (c .before .enum-told5 .given .1))
+returns-5 c = c .without-number5 .ensures ∙ sym (rw (c .before .enum-told5 .given .1))
 
 returns-6 : tie.Need-returns-6
 unfolding onBracket
-returns-6 c = c .asks-scan6 .ensures ∙ sym (rw (c .before .enum-told6 .given .1))
+returns-6 c = c .without-number6 .ensures ∙ sym (rw (c .before .enum-told6 .given .1))
 
 pub on-bracket-spec : {M : Type 1} → statement M
 on-bracket-spec = tie.close (tie.spec

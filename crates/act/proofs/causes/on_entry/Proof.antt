@@ -14,7 +14,7 @@ use Rattle.act.proofs.causes.on_entry.Tie as tie
 
 returns : tie.Need-returns
 unfolding standing
-returns c = c .asks-offer .ensures ∙ sym (rw (c .before .enum-told .given .1))
+returns c = c .without-number .ensures ∙ sym (rw (c .before .enum-told .given .1))
 
 returns-2 : tie.Need-returns-2
 unfolding standing
@@ -73,7 +73,7 @@ returns-6 : tie.Need-returns-6
 unfolding standing
 returns-6 c =
     let q = c .before in
-    c .asks-offer2 .ensures ∙ ap (λ (b : Bool). stands b true true true true true) (q .is-offered .ensures) ∙ sym (rw (q .before .enum-told5 .given .1))
+    c .without-number2 .ensures ∙ ap (λ (b : Bool). stands b true true true true true) (q .is-offered .ensures) ∙ sym (rw (q .before .enum-told5 .given .1))
 
 pub on-entry-spec : {M : Type 1} → statement M
 on-entry-spec = tie.close (tie.spec
