@@ -114,11 +114,11 @@ fn extend(prefix: Prefix, c: u8) -> Prefix
             Prefix::Wrong
         }
         Prefix::Letter(letter) => {
-            if number::is_digit(c) {
-                let address = c - 48;
-                return Prefix::Digit { letter, address };
+            if !number::is_digit(c) {
+                return Prefix::Wrong;
             }
-            Prefix::Wrong
+            let address = c - 48;
+            Prefix::Digit { letter, address }
         }
         Prefix::Digit { letter, address } => {
             if number::is_digit(c) {

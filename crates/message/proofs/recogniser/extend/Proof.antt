@@ -1,5 +1,6 @@
 -- `message::recogniser::extend` meets its contract: the arm taken says which state it is. Assumes nothing.
 use mathlib.Core.Path.{sym, ap, _∙_}
+use borrow.Author.Tests.{not-true, not-false}
 use Rattle.number.specs.Data.{digitOf}
 use Rattle.number.proofs.Digits.{digit-ends}
 use Rattle.message.specs.Prefix.{extendData, extend}
@@ -11,12 +12,12 @@ returns : tie.Need-returns
 unfolding extend
 returns c = rw (c .before .before .enum-told .given .1) (sym (rw (sym (c .before .is-letter .ensures) ∙ c .if1 .taken)))
 
-sub-address : tie.Need-sub-address
-sub-address c = digit-ends _ (sym (c .before .is-digit .ensures) ∙ c .if2 .taken) .0
-
 returns-2 : tie.Need-returns-2
-unfolding extend digitOf
-returns-2 c = rw (c .before .before .before .prefix .given .1) (sym (rw (sym (c .before .is-digit .ensures) ∙ c .if2 .taken)))
+unfolding extend
+returns-2 c = rw (c .before .before .before .prefix .given .1) (sym (rw (sym (c .before .is-digit .ensures) ∙ not-true (c .before .is-digit .result) (c .if2 .taken))))
+
+sub-address : tie.Need-sub-address
+sub-address c = digit-ends _ (sym (c .before .is-digit .ensures) ∙ not-false (c .before .is-digit .result) (c .if2 .left)) .0
 
 extend-address-requires : tie.Need-extend-address-requires
 extend-address-requires c κs = sym (c .before .is-digit2 .ensures) ∙ c .if3 .taken
@@ -33,8 +34,8 @@ unfolding extend
 returns-4 c = rw (c .before .before .enum-told .given .1) (sym (rw (sym (c .before .is-letter .ensures) ∙ c .if1 .left)))
 
 returns-5 : tie.Need-returns-5
-unfolding extend
-returns-5 c = rw (c .before .before .before .prefix .given .1) (sym (rw (sym (c .before .is-digit .ensures) ∙ c .if2 .left)))
+unfolding extend digitOf
+returns-5 c = rw (c .before .before .before .prefix .given .1) (sym (rw (sym (c .before .is-digit .ensures) ∙ not-false (c .before .is-digit .result) (c .if2 .left))))
 
 returns-6 : tie.Need-returns-6
 unfolding extend
@@ -67,7 +68,7 @@ returns-11 c = rw (c .enum-told3 .given .1)
 
 pub extend-spec : {M : Type 1} → statement M
 extend-spec = tie.close (tie.spec
-    (λ c. search needs) (λ c κs. search needs) returns (λ c. search needs) (λ c κs. search needs) sub-address returns-2
+    (λ c. search needs) (λ c κs. search needs) returns (λ c. search needs) (λ c κs. search needs) returns-2 sub-address
     (λ c. search needs) (λ c κs. search needs) extend-address-requires returns-3 (λ c κs. search needs) (λ c. search needs)
     (λ c κs. search needs) (λ c. search needs) (λ c κs. search needs) (λ c. search needs) (λ c κs. search needs) (λ c κs. search needs)
     (λ c. search needs) (λ c. search needs) returns-4 returns-5 returns-6 returns-7 returns-8 returns-9 returns-10 returns-11)
