@@ -86,11 +86,15 @@ by-first {X} cs f g = go (first cs) refl
     go (refused n) e = f n e
     go (gave tt) e = g e
 
--- what is true of every number of the list is true of the one that is given
-pub first-among : (f : ℕ → Bool) (cs : List Check) (n : ℕ) → every (λ (c : Check). f (c .number)) cs ≡ true → first cs ≡ refused n → f n ≡ true
+-- what is true of every line of the list is true of the one that holds and gives its number
+pub first-line : (f : Check → Bool) (cs : List Check) (n : ℕ) → every f cs ≡ true → first cs ≡ refused n → f (record { holds = true; number = n }) ≡ true
 unfolding every
-first-among f [] n e q = absurd (refused-gave (sym q ∙ first-none))
-first-among f (c ∷ cs) n e q =
+first-line f [] n e q = absurd (refused-gave (sym q ∙ first-none))
+first-line f (c ∷ cs) n e q =
     by-test (c .holds)
-    (λ t. ap f (sym (refused-is (sym (first-holds c cs t) ∙ q))) ∙ search ands)
-    (λ t. first-among f cs n (search ands) (sym (first-passes c cs t) ∙ q))
+    (λ t. (λ j. f (record { holds = sym t j; number = sym (refused-is (sym (first-holds c cs t) ∙ q)) j })) ∙ search ands)
+    (λ t. first-line f cs n (search ands) (sym (first-passes c cs t) ∙ q))
+
+-- and so of every number of the list
+pub first-among : (f : ℕ → Bool) (cs : List Check) (n : ℕ) → every (λ (c : Check). f (c .number)) cs ≡ true → first cs ≡ refused n → f n ≡ true
+first-among f cs n e q = first-line (λ (c : Check). f (c .number)) cs n e q

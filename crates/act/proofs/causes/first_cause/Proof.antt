@@ -1,106 +1,98 @@
--- `act::causes::first_cause` meets its contract: each test is a line of the list. Assumes nothing.
-use mathlib.Core.Path.{_≡_, sym, _∙_}
+-- `act::causes::first_cause` meets its contract: each test is a line of the list, and behind those that are passed the rest of the list
+-- decides. Assumes nothing.
+use mathlib.Core.Path.{_≡_, sym, ap, _∙_}
 use mathlib.Core.Bool.{true}
+use Prim.Native.Nat.{ℕ}
+use lib.ListN.{drop}
 use borrow.Author.Tests.{not-true, not-false}
+use Rattle.refusal.specs.Refusal.{Outcome}
 use Rattle.refusal.specs.Check.{first}
-use Rattle.act.specs.Cause.{isFor, causes}
+use Rattle.act.specs.Cause.{causes, because}
 use borrow.Author.Needs.{needs}
 use Rattle.act.proofs.causes.first_cause.Statement.{statement}
 use Rattle.act.proofs.causes.first_cause.Tie as tie
 
--- the tests that are passed
-ours : (k : tie.Else1) → isFor (k .before .before .args .setup) (k .before .before .args .message) ≡ true
-ours k = sym (k .before .is-for .ensures) ∙ not-false _ (k .if1 .left)
+-- what the tests from the k-th on come to
+abbrev from : tie.Start → ℕ → Outcome (Unit {0})
+from s k = first (drop k (causes (s .args .setup) (s .args .message) (s .args .standing)))
 
+-- where the tests began
+abbrev start-1 : tie.Else1 → tie.Start
+start-1 k = k .before .before
+
+abbrev start-2 : tie.Else2 → tie.Start
+start-2 k = start-1 (k .before .before)
+
+abbrev start-3 : tie.Else3 → tie.Start
+start-3 k = start-2 (k .before .before)
+
+abbrev start-4 : tie.Else4 → tie.Start
+start-4 k = start-3 (k .before .before)
+
+abbrev start-5 : tie.Else5 → tie.Start
+start-5 k = start-4 (k .before .before)
+
+abbrev start-6 : tie.Else6 → tie.Start
+start-6 k = start-5 (k .before .before)
+
+-- one after the other, those that are passed decide nothing
+passed-1 : (k : tie.Else1) → from (start-1 k) 0 ≡ from (start-1 k) 1
+unfolding first causes
+passed-1 k = rw (sym (k .before .is-for .ensures) ∙ not-false _ (k .if1 .left))
+
+passed-2 : (k : tie.Else2) → from (start-2 k) 0 ≡ from (start-2 k) 2
+unfolding first causes
+passed-2 k = passed-1 (k .before .before) ∙ rw (k .if2 .left)
+
+passed-3 : (k : tie.Else3) → from (start-3 k) 0 ≡ from (start-3 k) 3
+unfolding first causes
+passed-3 k = passed-2 (k .before .before) ∙ rw (k .if3 .left)
+
+passed-4 : (k : tie.Else4) → from (start-4 k) 0 ≡ from (start-4 k) 4
+unfolding first causes
+passed-4 k = passed-3 (k .before .before) ∙ rw (k .if4 .left)
+
+passed-5 : (k : tie.Else5) → from (start-5 k) 0 ≡ from (start-5 k) 5
+unfolding first causes
+passed-5 k = passed-4 (k .before .before) ∙ rw (k .if5 .left)
+
+passed-6 : (k : tie.Else6) → from (start-6 k) 0 ≡ from (start-6 k) 6
+unfolding first causes
+passed-6 k = passed-5 (k .before .before) ∙ rw (k .if6 .left)
+
+-- the first that isn't gives its cause
 returns : tie.Need-returns
 unfolding first causes
 returns c = sym (rw (sym (c .before .is-for .ensures) ∙ not-true _ (c .if1 .taken)))
 
 returns-2 : tie.Need-returns-2
 unfolding first causes
-returns-2 c = sym (rw (ours (c .before .before), c .if2 .taken))
+returns-2 c = sym (ap because (passed-1 (c .before .before)) ∙ rw (c .if2 .taken))
 
 returns-3 : tie.Need-returns-3
 unfolding first causes
-returns-3 c =
-    let a = c .before .before in
-    sym (rw (ours (a .before .before), a .if2 .left, c .if3 .taken))
+returns-3 c = sym (ap because (passed-2 (c .before .before)) ∙ rw (c .if3 .taken))
 
 returns-4 : tie.Need-returns-4
 unfolding first causes
-returns-4 c =
-    let b = c .before .before in
-    let a = b .before .before in
-    sym (rw (ours (a .before .before), a .if2 .left, b .if3 .left, c .if4 .taken))
+returns-4 c = sym (ap because (passed-3 (c .before .before)) ∙ rw (c .if4 .taken))
 
 returns-5 : tie.Need-returns-5
 unfolding first causes
-returns-5 c =
-    let d = c .before .before in
-    let b = d .before .before in
-    let a = b .before .before in
-    sym (rw (ours (a .before .before), a .if2 .left, b .if3 .left, d .if4 .left, c .if5 .taken))
+returns-5 c = sym (ap because (passed-4 (c .before .before)) ∙ rw (c .if5 .taken))
 
 returns-6 : tie.Need-returns-6
 unfolding first causes
-returns-6 c =
-    let e = c .before .before in
-    let d = e .before .before in
-    let b = d .before .before in
-    let a = b .before .before in
-    sym
-    (rw (
-      ours (a .before .before),
-      a .if2 .left,
-      b .if3 .left,
-      d .if4 .left,
-      e .if5 .left,
-      c .if6 .taken,
-    ))
-
--- the first six are passed
-module _ (f : tie.Else6) where
-  abbrev e : tie.Else5
-  e = f .before .before
-
-  abbrev d : tie.Else4
-  d = e .before .before
-
-  abbrev b : tie.Else3
-  b = d .before .before
-
-  abbrev a : tie.Else2
-  a = b .before .before
+returns-6 c = sym (ap because (passed-5 (c .before .before)) ∙ rw (c .if6 .taken))
 
 returns-7 : tie.Need-returns-7
 unfolding first causes
-returns-7 c =
-    let f = c .before .before in
-    sym
-    (rw (
-      ours (a f .before .before),
-      a f .if2 .left,
-      b f .if3 .left,
-      d f .if4 .left,
-      e f .if5 .left,
-      f .if6 .left,
-      c .if7 .taken,
-    ))
+returns-7 c = sym (ap because (passed-6 (c .before .before)) ∙ rw (c .if7 .taken))
 
 returns-8 : tie.Need-returns-8
 unfolding first causes
-returns-8 c =
-    let f = c .before .before in
-    sym
-    (rw (
-      ours (a f .before .before),
-      a f .if2 .left,
-      b f .if3 .left,
-      d f .if4 .left,
-      e f .if5 .left,
-      f .if6 .left,
-      c .if7 .left,
-    ))
+returns-8 c = sym (ap because (passed-6 (c .before .before)) ∙ rw (c .if7 .left))
 
 pub first-cause-spec : {M : Type 1} → statement M
-first-cause-spec = tie.close (tie.spec (λ c κs. search needs) returns returns-2 returns-3 returns-4 returns-5 returns-6 returns-7 returns-8)
+first-cause-spec = tie.close (tie.spec
+    (λ c κs. search needs) returns returns-2 returns-3 returns-4 returns-5 returns-6 returns-7 returns-8)
