@@ -1,4 +1,4 @@
--- The calls that take a card as a row of twenty-two numbers: what each gives back, and all that it leaves, for every input.
+-- The calls that take a card as a row of twenty-three numbers: what each gives back, and all that it leaves, for every input.
 use mathlib.Core.Bool.{cond}
 use mathlib.Core.List.{List, [], _∷_}
 use Prim.Native.Nat.{ℕ}

@@ -1,6 +1,6 @@
 -- What a call gives back to a host: minus the number of its refusal, or a count; and what a host asks the writer for.
 -- All of it is built on the calls' own definitions.
-use mathlib.Core.Bool.{cond}
+use mathlib.Core.Bool.{cond, _&&_}
 use Prim.Native.Nat.{ℕ}
 use Prim.Native.Char.{code}
 use mathlib.Core.List.{List}
@@ -9,7 +9,7 @@ use lib.IntN.{ℤ, pos, negℤ}
 use Rattle.refusal.specs.Refusal.{Outcome, refused, gave, numberOf}
 use Rattle.refusal.specs.Call.{Call, refuses}
 use Rattle.refusal.specs.declared.Refusal.the-variants.{NotMessage}
-use Rattle.number.specs.Data.{withDecimals}
+use Rattle.number.specs.Data.{withDecimals, withZero}
 use Rattle.message.specs.Message.{question}
 use Rattle.message.specs.Prefix.{message}
 use Rattle.message.specs.Spell.{writeCall}
@@ -51,19 +51,20 @@ given c = filled (resultOf (c .outcome)) (c .buffer)
 
 -- ---- the message that a host asks for, by the first character of its body; what fits no byte is no message
 
-unfoldable pub setOf : ℕ → ℕ → ℕ → ℤ → ℕ → Parsed
-setOf l a i n d = cond (leb d 255) (Heard (message l a i (Set (withDecimals n d)))) Unheard
+-- z is 1 for minus zero and 0 for any other number
+unfoldable pub setOf : ℕ → ℕ → ℕ → ℤ → ℕ → ℕ → Parsed
+setOf l a i n d z = cond (leb d 255 && leb z 1) (Heard (message l a i (Set (withZero (withDecimals n d) (eqb z 1))))) Unheard
 
-unfoldable pub bodyOf : ℕ → ℕ → ℕ → ℕ → ℤ → ℕ → Parsed
-bodyOf l a i k n d =
+unfoldable pub bodyOf : ℕ → ℕ → ℕ → ℕ → ℤ → ℕ → ℕ → Parsed
+bodyOf l a i k n d z =
     cond (eqb k question) (cond (eqb i question) (Heard (message l a i Status)) (Heard (message l a i Query)))
     (cond (eqb k (code "+")) (Heard (message l a i Up))
     (cond (eqb k (code "-")) (Heard (message l a i Down))
     (cond (eqb k (code "I")) (Heard (message l a i Store))
-    (cond (eqb k (code "#")) (setOf l a i n d) Unheard))))
+    (cond (eqb k (code "#")) (setOf l a i n d z) Unheard))))
 
-unfoldable pub asked : ℕ → ℕ → ℕ → ℕ → ℤ → ℕ → Parsed
-asked l a i k n d = cond (leb a 255) (bodyOf l a i k n d) Unheard
+unfoldable pub asked : ℕ → ℕ → ℕ → ℕ → ℤ → ℕ → ℕ → Parsed
+asked l a i k n d z = cond (leb a 255) (bodyOf l a i k n d z) Unheard
 
 -- document 01, number 7: "asked for something that isn't a heard message"
 unfoldable pub writeAsked : Parsed → List ℕ → Call

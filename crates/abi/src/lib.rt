@@ -29,6 +29,7 @@ use message::Body;
 use message::Message;
 use message::Parsed;
 use number::Decimal;
+use number::Numeral;
 use refusal::Refusal;
 use refusal::Verdict;
 use refusal::Written;
@@ -78,19 +79,40 @@ fn heard(letter: u8, address: u8, identifier: u8, body: Body) -> Parsed
     })
 }
 
-fn set_of(letter: u8, address: u8, identifier: u8, number: i32, decimals: u32) -> Parsed
-    ensures { λ r. ⌜ r ≡ setOf letter address identifier number decimals ⌝ }
+fn set_of(
+    letter: u8,
+    address: u8,
+    identifier: u8,
+    number: i32,
+    decimals: u32,
+    minus_zero: u32,
+) -> Parsed
+    ensures { λ r. ⌜ r ≡ setOf letter address identifier number decimals «minus_zero» ⌝ }
 {
-    if 255 < decimals {
+    if !((decimals <= 255) & (minus_zero <= 1)) {
         return Parsed::Unheard;
     }
     let decimals = decimals as u8;
-    let x = Decimal { number, decimals };
-    heard(letter, address, identifier, Body::Set(x))
+    let value = Decimal { number, decimals };
+    let minus_zero = minus_zero == 1;
+    heard(
+        letter,
+        address,
+        identifier,
+        Body::Set(Numeral { value, minus_zero }),
+    )
 }
 
-fn body_of(letter: u8, address: u8, identifier: u8, kind: u8, number: i32, decimals: u32) -> Parsed
-    ensures { λ r. ⌜ r ≡ bodyOf letter address identifier kind number decimals ⌝ }
+fn body_of(
+    letter: u8,
+    address: u8,
+    identifier: u8,
+    kind: u8,
+    number: i32,
+    decimals: u32,
+    minus_zero: u32,
+) -> Parsed
+    ensures { λ r. ⌜ r ≡ bodyOf letter address identifier kind number decimals «minus_zero» ⌝ }
 {
     match kind {
         b'?' => {
@@ -103,18 +125,34 @@ fn body_of(letter: u8, address: u8, identifier: u8, kind: u8, number: i32, decim
         b'+' => heard(letter, address, identifier, Body::Up),
         b'-' => heard(letter, address, identifier, Body::Down),
         b'I' => heard(letter, address, identifier, Body::Store),
-        b'#' => set_of(letter, address, identifier, number, decimals),
+        b'#' => set_of(letter, address, identifier, number, decimals, minus_zero),
         _ => Parsed::Unheard,
     }
 }
 
-fn asked(letter: u8, address: u32, identifier: u8, kind: u8, number: i32, decimals: u32) -> Parsed
-    ensures { λ r. ⌜ r ≡ asked letter address identifier kind number decimals ⌝ }
+fn asked(
+    letter: u8,
+    address: u32,
+    identifier: u8,
+    kind: u8,
+    number: i32,
+    decimals: u32,
+    minus_zero: u32,
+) -> Parsed
+    ensures { λ r. ⌜ r ≡ asked letter address identifier kind number decimals «minus_zero» ⌝ }
 {
     if 255 < address {
         return Parsed::Unheard;
     }
-    body_of(letter, address as u8, identifier, kind, number, decimals)
+    body_of(
+        letter,
+        address as u8,
+        identifier,
+        kind,
+        number,
+        decimals,
+        minus_zero,
+    )
 }
 
 // ---- rows of numbers
@@ -205,11 +243,20 @@ pub extern "C" fn kav_write(
     kind: u8,
     number: i32,
     decimals: u32,
+    minus_zero: u32,
     out: &mut [u8],
 ) -> i64
-    ensures { λ r. ⌜ filled r (now (out .exit)) ≡ given (writeAsked (asked letter address identifier kind number decimals) (now (out .entry))) ⌝ }
+    ensures { λ r. ⌜ filled r (now (out .exit)) ≡ given (writeAsked (asked letter address identifier kind number decimals «minus_zero») (now (out .entry))) ⌝ }
 {
-    match asked(letter, address, identifier, kind, number, decimals) {
+    match asked(
+        letter,
+        address,
+        identifier,
+        kind,
+        number,
+        decimals,
+        minus_zero,
+    ) {
         Parsed::Heard(message) => result(message::write(message, out)),
         Parsed::Unheard => minus_number(Refusal::NotMessage),
     }
@@ -225,11 +272,20 @@ pub extern "C" fn kav_line(
     kind: u8,
     number: i32,
     decimals: u32,
+    minus_zero: u32,
     out: &mut [u8],
 ) -> i64
-    ensures { λ r. ⌜ filled r (now (out .exit)) ≡ given (lineAsked at (asked letter address identifier kind number decimals) (now (out .entry))) ⌝ }
+    ensures { λ r. ⌜ filled r (now (out .exit)) ≡ given (lineAsked at (asked letter address identifier kind number decimals «minus_zero») (now (out .entry))) ⌝ }
 {
-    match asked(letter, address, identifier, kind, number, decimals) {
+    match asked(
+        letter,
+        address,
+        identifier,
+        kind,
+        number,
+        decimals,
+        minus_zero,
+    ) {
         Parsed::Heard(message) => result(listing::line(at, message, out)),
         Parsed::Unheard => minus_number(Refusal::NotMessage),
     }

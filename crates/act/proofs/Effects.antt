@@ -14,6 +14,7 @@ use Rattle.refusal.specs.Lists.{every}
 use Rattle.refusal.proofs.Logic.{and-both, and-right, ands, or-cases, choice}
 use Rattle.number.specs.Number.{inRange, cut, raised, lowered}
 use Rattle.number.specs.declared.Decimal.{Decimal}
+use Rattle.number.specs.declared.Numeral.{Numeral}
 use Rattle.number.specs.Data.{withDecimals, fits}
 use Rattle.number.proofs.Cuts.{raised-is, lowered-is}
 use Rattle.number.proofs.Reading.{within-fits}
@@ -40,7 +41,7 @@ use Rattle.act.specs.declared.Offer.the-variants.{Nothing, Held}
 use Rattle.act.specs.declared.Said.the-variants.{Silence, Reply}
 use Rattle.act.specs.declared.Store.the-variants.{Keep, Put}
 use Rattle.act.specs.declared.Effect.{Effect}
-use Rattle.act.specs.Cause.{rowOrZeros, isFor}
+use Rattle.act.specs.Cause.{rowOrZeros, isFor, takesZero}
 use Rattle.act.specs.Act.{answerTo, noNumber, says, accepts, shownBy, offers, named, valueOf, scanOf, act}
 use Rattle.act.proofs.Judged.{act-is}
 use Rattle.act.specs.Inner.{declines, query, moves, up, down, setTo, store, serve, declinesScan, serveScan, addressed}
@@ -194,16 +195,16 @@ module _ (bench maker values : List ℤ) (v : soundValues bench maker values ≡
     good-down (Found r) f = good-moves r (lowered value (r .step)) f (lowers r f)
     good-down Missing f = good-declines Missing f
 
-    good-set : (e : Entry) (x : Decimal) → entry ≡ e → Good bench maker (setTo m e value x)
+    good-set : (c : Setup) (e : Entry) (x : Numeral) → entry ≡ e → Good bench maker (setTo c m e value x)
     unfolding setTo offers
-    good-set (Found r) x f =
-        choice (Good bench maker) (isWritable r && eqb (x .decimals) (r .decimals) && inRange (r .least) (x .number) (r .greatest))
+    good-set c (Found r) x f =
+        choice (Good bench maker) (isWritable r && eqb (x .value .decimals) (r .decimals) && takesZero c (body.Set x) && inRange (r .least) (x .value .number) (r .greatest))
         (λ t.
-        let z = cut (x .number) (r .step) in
-        let h = in-row r f Offered z (fits-parts r z (cut-fits r (row-sound r f) (x .number) (search ands)) .0) in
+        let z = cut (x .value .number) (r .step) in
+        let h = in-row r f Offered z (fits-parts r z (cut-fits r (row-sound r f) (x .value .number) (search ands)) .0) in
         record { stores = λ i y e. kept e; answers = λ a e. said-is (answerTo m Offered (Number (withDecimals z (r .decimals)))) a e h })
         (λ t. good-declines (Found r) f)
-    good-set Missing x f = good-declines Missing f
+    good-set c Missing x f = good-declines Missing f
 
     good-store : (o : Offer) → Fair bench maker o → Good bench maker (store m entry o)
     unfolding store
@@ -215,14 +216,14 @@ module _ (bench maker values : List ℤ) (v : soundValues bench maker values ≡
         (λ t. good-silence bench maker Nothing)
     good-store Nothing g = good-silence bench maker Nothing
 
-  good-serve : (o : Offer) → Fair bench maker o → eqb (m .identifier) scanIdentifier ≡ false → (b : Body) → BodyParts (m .identifier) b → Good bench maker (serve m entry o value b)
+  good-serve : (c : Setup) (o : Offer) → Fair bench maker o → eqb (m .identifier) scanIdentifier ≡ false → (b : Body) → BodyParts (m .identifier) b → Good bench maker (serve c m entry o value b)
   unfolding serve
-  good-serve o g u body.Status f = good-says bench maker m Accepted Empty (known Accepted Empty (content-status (m .identifier) f))
-  good-serve o g u body.Query f = good-query f u entry refl
-  good-serve o g u body.Up f = good-up f u entry refl
-  good-serve o g u body.Down f = good-down f u entry refl
-  good-serve o g u (body.Set x) f = good-set (f .0) u entry x refl
-  good-serve o g u body.Store f = good-store f u o g
+  good-serve c o g u body.Status f = good-says bench maker m Accepted Empty (known Accepted Empty (content-status (m .identifier) f))
+  good-serve c o g u body.Query f = good-query f u entry refl
+  good-serve c o g u body.Up f = good-up f u entry refl
+  good-serve c o g u body.Down f = good-down f u entry refl
+  good-serve c o g u (body.Set x) f = good-set (f .0) u c entry x refl
+  good-serve c o g u body.Store f = good-store f u o g
 
   -- ---- on `]`, at a card whose scan is fair
 
@@ -270,5 +271,5 @@ module _ (bench maker values : List ℤ) (v : soundValues bench maker values ≡
       (choice (Good bench maker) (eqb (m .identifier) scanIdentifier)
       (λ u. choice (Good bench maker) (isFor c m) (λ t. good-scan u c s (m .body)) (λ t. good-silence bench maker o))
       (λ u.
-      choice (Good bench maker) (isFor c m) (λ t. good-serve o g u (m .body) (body-parts (m .identifier) (m .body) (p .fits-body)))
+      choice (Good bench maker) (isFor c m) (λ t. good-serve c o g u (m .body) (body-parts (m .identifier) (m .body) (p .fits-body)))
       (λ t. good-silence bench maker o)))

@@ -1,4 +1,4 @@
--- What the causes of a message say of what the card does with it: it is answered with `N` exactly where the cause is one of the five of `N`,
+-- What the causes of a message say of what the card does with it: it is answered with `N` exactly where the cause is one of those of `N`,
 -- and with silence exactly where it is one of the others. Assumes nothing.
 use mathlib.Core.Path.{_≡_, refl, sym, ap, _∙_}
 use mathlib.Core.Bool.{Bool, true, false, cond, not, _&&_, _||_, false≢true}
@@ -29,7 +29,7 @@ use Rattle.act.specs.declared.Said.the-variants.{Silence, Reply}
 use Rattle.act.specs.declared.Effect.{Effect}
 use Rattle.act.specs.declared.causes.Standing.{Standing}
 use Rattle.act.specs.declared.causes.Cause.{Cause}
-use Rattle.act.specs.declared.causes.Cause.the-variants.{None, NoSuchIdentifier, Access, WrongDecimals, OutOfRange, AtLimit, NotForThisCard, NoOffer, NoMessageClosed, NotWellFormed}
+use Rattle.act.specs.declared.causes.Cause.the-variants.{None, NoSuchIdentifier, Access, WrongDecimals, OutOfRange, AtLimit, NotForThisCard, NoOffer, NoMessageClosed, NotWellFormed, MinusZero}
 use Rattle.act.specs.Cause.{Why, whyOf, isFor, causes, because, causesOfN, silences, isOneOf}
 use Rattle.act.specs.Act.{says, accepts, offers, granted, turnedDown, respond, act, causesIn}
 
@@ -163,11 +163,12 @@ causeFrom y =
     (cond (eqb (y .code) 1) NoSuchIdentifier
     (cond (eqb (y .code) 2) Access
     (cond (eqb (y .code) 3) WrongDecimals
+    (cond (eqb (y .code) 4) MinusZero
     (cond (eqb (y .code) 5) OutOfRange
     (cond (eqb (y .code) 6) AtLimit
     (cond (eqb (y .code) 7) NotForThisCard
     (cond (eqb (y .code) 8) NoOffer
-    (cond (eqb (y .code) 9) NoMessageClosed (NotWellFormed (y .position))))))))))
+    (cond (eqb (y .code) 9) NoMessageClosed (NotWellFormed (y .position)))))))))))
 
 cause-back : (x : Cause) → causeFrom (whyOf x) ≡ x
 unfolding causeFrom
@@ -181,6 +182,7 @@ cause-back NotForThisCard = refl
 cause-back NoOffer = refl
 cause-back NoMessageClosed = refl
 cause-back (NotWellFormed p) = refl
+cause-back MinusZero = refl
 
 pub why-injective : (x y : Cause) → whyOf x ≡ whyOf y → x ≡ y
 why-injective x y e = sym (cause-back x) ∙ ap causeFrom e ∙ cause-back y

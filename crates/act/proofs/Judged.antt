@@ -13,6 +13,7 @@ use Rattle.number.specs.Number.{inRange, raised, lowered}
 use Rattle.message.specs.declared.Body.{Body}
 use Rattle.message.specs.declared.Body.the-variants as body
 use Rattle.message.specs.declared.Message.{Message}
+use Rattle.message.specs.Message.{asksMinusZero}
 use Rattle.sheet.specs.declared.Entry.{Entry}
 use Rattle.sheet.specs.declared.Entry.the-variants.{Found, Missing}
 use Rattle.sheet.specs.Values.{entryIn, isReadable, isWritable, isReadWrite}
@@ -24,7 +25,7 @@ use Rattle.act.specs.declared.Offer.{Offer}
 use Rattle.act.specs.declared.Offer.the-variants.{Nothing, Held}
 use Rattle.act.specs.declared.Effect.{Effect}
 use Rattle.act.specs.declared.causes.Standing.{Standing}
-use Rattle.act.specs.Cause.{rowOrZeros, isOffered, standing, onEntry, onBracket, isFor, causes}
+use Rattle.act.specs.Cause.{rowOrZeros, isOffered, standing, onEntry, onBracket, isFor, takesZero, causes}
 use Rattle.act.specs.Act.{noEffect, noNumber, says, shownBy, granted, hasScan, valueOf, scanOf, turnedDown, respond, act}
 use Rattle.act.specs.Inner.{declines, query, moves, up, down, setTo, store, serve, declinesScan, serveScan, addressed, onScan, onRow}
 
@@ -39,61 +40,64 @@ module _ (c : Setup) (o : Offer) (m : Message) where
     abbrev on : Entry → Body → Effect
     on e b = judged (onEntry e o v (m .identifier) b) (shownBy e v) (granted m (rowOrZeros e) o v b)
 
-    query-is : (e : Entry) → on e body.Query ≡ query m e v
-    unfolding first causes standing turnedDown granted query declines
-    query-is (Found r) = by-test (isReadable r) (λ t. rw (its, t)) (λ t. rw (its, t))
-    query-is Missing = rw its
+    query-is : (e : Entry) → m .body ≡ body.Query → on e body.Query ≡ query m e v
+    unfolding first causes takesZero asksMinusZero standing turnedDown granted query declines
+    query-is (Found r) q = by-test (isReadable r) (λ t. rw (its, t, q)) (λ t. rw (its, t))
+    query-is Missing q = rw its
 
-    up-is : (e : Entry) → on e body.Up ≡ up m e v
-    unfolding first causes standing turnedDown granted up moves declines
-    up-is (Found r) =
+    up-is : (e : Entry) → m .body ≡ body.Up → on e body.Up ≡ up m e v
+    unfolding first causes takesZero asksMinusZero standing turnedDown granted up moves declines
+    up-is (Found r) q =
         by-test (isReadWrite r)
-        (λ t. by-test (inRange (r .least) (raised v (r .step)) (r .greatest)) (λ u. rw (its, t, u)) (λ u. rw (its, t, u))) (λ t. rw (its, t))
-    up-is Missing = rw its
+        (λ t. by-test (inRange (r .least) (raised v (r .step)) (r .greatest)) (λ u. rw (its, t, q, u)) (λ u. rw (its, t, q, u))) (λ t. rw (its, t))
+    up-is Missing q = rw its
 
-    down-is : (e : Entry) → on e body.Down ≡ down m e v
-    unfolding first causes standing turnedDown granted down moves declines
-    down-is (Found r) =
+    down-is : (e : Entry) → m .body ≡ body.Down → on e body.Down ≡ down m e v
+    unfolding first causes takesZero asksMinusZero standing turnedDown granted down moves declines
+    down-is (Found r) q =
         by-test (isReadWrite r)
-        (λ t. by-test (inRange (r .least) (lowered v (r .step)) (r .greatest)) (λ u. rw (its, t, u)) (λ u. rw (its, t, u))) (λ t. rw (its, t))
-    down-is Missing = rw its
+        (λ t. by-test (inRange (r .least) (lowered v (r .step)) (r .greatest)) (λ u. rw (its, t, q, u)) (λ u. rw (its, t, q, u))) (λ t. rw (its, t))
+    down-is Missing q = rw its
 
-    set-is : (e : Entry) (x : _) → on e (body.Set x) ≡ setTo m e v x
+    set-is : (e : Entry) (x : _) → m .body ≡ body.Set x → on e (body.Set x) ≡ setTo c m e v x
     unfolding first causes standing turnedDown granted setTo declines
-    set-is (Found r) x =
+    set-is (Found r) x q =
         by-test (isWritable r)
         (λ t.
-        by-test (eqb (x .decimals) (r .decimals))
-        (λ u. by-test (inRange (r .least) (x .number) (r .greatest)) (λ w. rw (its, t, u, w)) (λ w. rw (its, t, u, w)))
+        by-test (eqb (x .value .decimals) (r .decimals))
+        (λ u.
+        by-test (takesZero c (body.Set x))
+        (λ z. by-test (inRange (r .least) (x .value .number) (r .greatest)) (λ w. rw (its, t, u, q, z, w)) (λ w. rw (its, t, u, q, z, w)))
+        (λ z. rw (its, t, u, q, z)))
         (λ u. rw (its, t, u)))
         (λ t. rw (its, t))
-    set-is Missing x = rw its
+    set-is Missing x q = rw its
 
-    store-is : (e : Entry) (p : Offer) → o ≡ p → on e body.Store ≡ store m e p
-    unfolding first causes standing isOffered turnedDown granted store
-    store-is e (Held i z) q = rw q (by-test (eqb i (m .identifier)) (λ t. rw (its, t)) (λ t. rw (its, t)))
-    store-is e Nothing q = rw q (rw its)
+    store-is : (e : Entry) (p : Offer) → m .body ≡ body.Store → o ≡ p → on e body.Store ≡ store m e p
+    unfolding first causes takesZero asksMinusZero standing isOffered turnedDown granted store
+    store-is e (Held i z) b q = rw q (by-test (eqb i (m .identifier)) (λ t. rw (its, t, b)) (λ t. rw (its, t)))
+    store-is e Nothing b q = rw q (rw its)
 
-    serve-is : (e : Entry) (b : Body) → on e b ≡ serve m e o v b
-    unfolding first causes standing granted serve
-    serve-is e body.Status = rw its
-    serve-is e body.Query = query-is e
-    serve-is e body.Up = up-is e
-    serve-is e body.Down = down-is e
-    serve-is e (body.Set x) = set-is e x
-    serve-is e body.Store = store-is e o refl
+    serve-is : (e : Entry) (b : Body) → m .body ≡ b → on e b ≡ serve c m e o v b
+    unfolding first causes takesZero asksMinusZero standing granted serve
+    serve-is e body.Status q = rw (its, q)
+    serve-is e body.Query q = query-is e q
+    serve-is e body.Up q = up-is e q
+    serve-is e body.Down q = down-is e q
+    serve-is e (body.Set x) q = set-is e x q
+    serve-is e body.Store q = store-is e o q refl
 
   -- ---- on `]`
 
   module _ (its : isFor c m ≡ true) (x : Content) where
-    scan-is : (b : Body) → judged (onBracket (hasScan c) b) noNumber (says m Accepted x) ≡ serveScan c m x b
-    unfolding first causes onBracket turnedDown serveScan declinesScan
-    scan-is body.Status = by-test (eqb (c .count) 0) (λ t. rw (its, t)) (λ t. rw (its, t))
-    scan-is body.Query = by-test (eqb (c .count) 0) (λ t. rw (its, t)) (λ t. rw (its, t))
-    scan-is body.Up = by-test (eqb (c .count) 0) (λ t. rw (its, t)) (λ t. rw (its, t))
-    scan-is body.Down = by-test (eqb (c .count) 0) (λ t. rw (its, t)) (λ t. rw (its, t))
-    scan-is (body.Set y) = by-test (eqb (c .count) 0) (λ t. rw (its, t)) (λ t. rw (its, t))
-    scan-is body.Store = rw its
+    scan-is : (b : Body) → m .body ≡ b → judged (onBracket (hasScan c) b) noNumber (says m Accepted x) ≡ serveScan c m x b
+    unfolding first causes takesZero asksMinusZero onBracket turnedDown serveScan declinesScan
+    scan-is body.Status q = by-test (eqb (c .count) 0) (λ t. rw (its, t)) (λ t. rw (its, t))
+    scan-is body.Query q = by-test (eqb (c .count) 0) (λ t. rw (its, t)) (λ t. rw (its, t, q))
+    scan-is body.Up q = by-test (eqb (c .count) 0) (λ t. rw (its, t)) (λ t. rw (its, t))
+    scan-is body.Down q = by-test (eqb (c .count) 0) (λ t. rw (its, t)) (λ t. rw (its, t))
+    scan-is (body.Set y) q = by-test (eqb (c .count) 0) (λ t. rw (its, t)) (λ t. rw (its, t))
+    scan-is body.Store q = rw its
 
   -- ---- for another card
 
@@ -105,13 +109,13 @@ module _ (c : Setup) (o : Offer) (m : Message) where
 
   -- e gives the entry of each identifier, and v its value
   module _ (e : ℕ → Entry) (v : ℕ → ℤ) where
-    pub row-is : onRow c o e v m ≡ addressed c o m (serve m (e (m .identifier)) o (v (m .identifier)) (m .body))
+    pub row-is : onRow c o e v m ≡ addressed c o m (serve c m (e (m .identifier)) o (v (m .identifier)) (m .body))
     unfolding onRow addressed
-    row-is = by-test (isFor c m) (λ t. serve-is t (v (m .identifier)) (e (m .identifier)) (m .body) ∙ sym (rw t)) (λ t. other-is _ _ _ t ∙ sym (rw t))
+    row-is = by-test (isFor c m) (λ t. serve-is t (v (m .identifier)) (e (m .identifier)) (m .body) refl ∙ sym (rw t)) (λ t. other-is _ _ _ t ∙ sym (rw t))
 
     pub bracket-is : onScan c o e v m ≡ addressed c o m (serveScan c m (scanOf c (valueOf e v)) (m .body))
     unfolding onScan addressed
-    bracket-is = by-test (isFor c m) (λ t. scan-is t (scanOf c (valueOf e v)) (m .body) ∙ sym (rw t)) (λ t. other-is _ _ _ t ∙ sym (rw t))
+    bracket-is = by-test (isFor c m) (λ t. scan-is t (scanOf c (valueOf e v)) (m .body) refl ∙ sym (rw t)) (λ t. other-is _ _ _ t ∙ sym (rw t))
 
     -- what the card does, by whether the message is on `]`
     pub scan-responds : eqb (m .identifier) scanIdentifier ≡ true → onScan c o e v m ≡ respond c o e v m
@@ -128,7 +132,7 @@ module _ (bench maker : List ℤ) (c : Setup) (o : Offer) (values : List ℤ) (m
 
   pub act-is : act bench maker c o values m
       ≡ cond (eqb (m .identifier) scanIdentifier) (addressed c o m (serveScan c m (scanOf c (valueOf (entryIn bench maker) valueAt)) (m .body)))
-      (addressed c o m (serve m (entryIn bench maker (m .identifier)) o (valueAt (m .identifier)) (m .body)))
+      (addressed c o m (serve c m (entryIn bench maker (m .identifier)) o (valueAt (m .identifier)) (m .body)))
   unfolding act
   act-is =
       by-test (eqb (m .identifier) scanIdentifier)

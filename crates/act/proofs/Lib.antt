@@ -2,3 +2,4 @@ pub mod Judged
 pub mod OnOffer
 pub mod Effects
 pub mod Fits
+pub mod Zeros

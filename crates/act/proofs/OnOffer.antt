@@ -12,11 +12,13 @@ use lib.IntN.{ℤ, pos}
 use lib.ListN.{getD}
 use Rattle.refusal.proofs.Logic.{ands, and-both, or-cases, choice, by-test}
 use Rattle.number.specs.declared.Decimal.{Decimal}
-use Rattle.number.specs.Data.{withDecimals}
+use Rattle.number.specs.declared.Numeral.{Numeral}
+use Rattle.number.specs.Data.{withDecimals, numeral}
 use Rattle.number.specs.Number.{inRange, cut, raised, lowered}
 use Rattle.message.specs.declared.Body.{Body}
 use Rattle.message.specs.declared.Body.the-variants as body
 use Rattle.message.specs.declared.Message.{Message}
+use Rattle.message.specs.Message.{asksMinusZero}
 use Rattle.sheet.specs.declared.Row.{Row}
 use Rattle.sheet.specs.declared.Entry.{Entry}
 use Rattle.sheet.specs.declared.Entry.the-variants.{Found, Missing}
@@ -31,7 +33,7 @@ use Rattle.act.specs.declared.Offer.{Offer}
 use Rattle.act.specs.declared.Offer.the-variants.{Nothing, Held}
 use Rattle.act.specs.declared.Said.the-variants.{Reply}
 use Rattle.act.specs.declared.Effect.{Effect}
-use Rattle.act.specs.Cause.{rowOrZeros, isFor}
+use Rattle.act.specs.Cause.{rowOrZeros, isFor, takesZero}
 use Rattle.act.specs.Act.{noEffect, answerTo, noNumber, says, accepts, shownBy, offers, named, namesFrom, valueOf, scanOf, ours, act}
 use Rattle.act.proofs.Judged.{act-is}
 use Rattle.act.specs.Inner.{declines, query, moves, up, down, setTo, store, serve, declinesScan, serveScan, addressed}
@@ -39,13 +41,13 @@ use Rattle.act.specs.Inner.{declines, query, moves, up, down, setTo, sto
 -- the message m, at the card that it is for, leaves the value z on offer for the identifier i
 pub record Leaves (bench maker : List ℤ) (m : Message) (i : ℕ) (z : ℤ) : Type 0 where
   pub row : Row
-  pub number : Decimal
+  pub number : Numeral
   pub type-3 : m .body ≡ body.Set number
   pub its : m .identifier ≡ i
   pub found : entryIn bench maker (m .identifier) ≡ Found row
   pub writable : isWritable row ≡ true
-  pub in-range : inRange (row .least) (number .number) (row .greatest) ≡ true
-  pub value : cut (number .number) (row .step) ≡ z
+  pub in-range : inRange (row .least) (number .value .number) (row .greatest) ≡ true
+  pub value : cut (number .value .number) (row .step) ≡ z
 
 -- ---- whatever the message, by whether it is for this card
 
@@ -88,10 +90,10 @@ module _ (bench maker : List ℤ) (m : Message) where
   left-down (Found r) v = left-moves r v (lowered v (r .step))
   left-down Missing v = left-declines Missing v
 
-  left-set : (e : Entry) (v : ℤ) (x : Decimal) → entryIn bench maker (m .identifier) ≡ e → m .body ≡ body.Set x → Left (setTo m e v x)
+  left-set : (c : Setup) (e : Entry) (v : ℤ) (x : Numeral) → entryIn bench maker (m .identifier) ≡ e → m .body ≡ body.Set x → Left (setTo c m e v x)
   unfolding setTo offers
-  left-set (Found r) v x f b =
-      choice Left (isWritable r && eqb (x .decimals) (r .decimals) && inRange (r .least) (x .number) (r .greatest))
+  left-set c (Found r) v x f b =
+      choice Left (isWritable r && eqb (x .value .decimals) (r .decimals) && takesZero c (body.Set x) && inRange (r .least) (x .value .number) (r .greatest))
       (λ t i z e. record {
         row = r;
         number = x;
@@ -103,21 +105,21 @@ module _ (bench maker : List ℤ) (m : Message) where
         value = cc;
       })
       (λ t. left-declines (Found r) v)
-  left-set Missing v x f b = left-declines Missing v
+  left-set c Missing v x f b = left-declines Missing v
 
   left-store : (e : Entry) (o : Offer) → Left (store m e o)
   unfolding store
   left-store e (Held j y) = choice Left (eqb j (m .identifier)) (λ t. left-accepts y (rowOrZeros e .decimals)) (λ t i z q. nothing q)
   left-store e Nothing = λ i z q. nothing q
 
-  left-serve : (o : Offer) (v : ℤ) (b : Body) → m .body ≡ b → Left (serve m (entryIn bench maker (m .identifier)) o v b)
+  left-serve : (c : Setup) (o : Offer) (v : ℤ) (b : Body) → m .body ≡ b → Left (serve c m (entryIn bench maker (m .identifier)) o v b)
   unfolding serve
-  left-serve o v body.Status e = left-says Accepted Empty
-  left-serve o v body.Query e = left-query (entryIn bench maker (m .identifier)) v
-  left-serve o v body.Up e = left-up (entryIn bench maker (m .identifier)) v
-  left-serve o v body.Down e = left-down (entryIn bench maker (m .identifier)) v
-  left-serve o v (body.Set x) e = left-set (entryIn bench maker (m .identifier)) v x refl e
-  left-serve o v body.Store e = left-store (entryIn bench maker (m .identifier)) o
+  left-serve c o v body.Status e = left-says Accepted Empty
+  left-serve c o v body.Query e = left-query (entryIn bench maker (m .identifier)) v
+  left-serve c o v body.Up e = left-up (entryIn bench maker (m .identifier)) v
+  left-serve c o v body.Down e = left-down (entryIn bench maker (m .identifier)) v
+  left-serve c o v (body.Set x) e = left-set c (entryIn bench maker (m .identifier)) v x refl e
+  left-serve c o v body.Store e = left-store (entryIn bench maker (m .identifier)) o
 
   left-scan : (c : Setup) (x : Content) (b : Body) → Left (serveScan c m x b)
   unfolding serveScan declinesScan
@@ -133,7 +135,7 @@ module _ (bench maker : List ℤ) (m : Message) where
   unfolding addressed
   act-leaves c o values t =
       subst Left (sym (act-is bench maker c o values m))
-      (rw t (choice Left (eqb (m .identifier) scanIdentifier) (λ u. left-scan c _ (m .body)) (λ u. left-serve o (getD values (m .identifier) (pos 0)) (m .body) refl)))
+      (rw t (choice Left (eqb (m .identifier) scanIdentifier) (λ u. left-scan c _ (m .body)) (λ u. left-serve c o (getD values (m .identifier) (pos 0)) (m .body) refl)))
 
   -- at any other
   pub act-neighbour : (c : Setup) (o : Offer) (values : List ℤ) → isFor c m ≡ false → act bench maker c o values m ≡ noEffect o
@@ -214,7 +216,7 @@ module _ (bench maker : List ℤ) (c : Setup) (o : Offer) (values : List ℤ) (m
 
   -- on any other identifier
   module _ (u : eqb (m .identifier) scanIdentifier ≡ false) where
-    served : (b : Body) → m .body ≡ b → answered ≡ serve m (entryIn bench maker (m .identifier)) o (getD values (m .identifier) (pos 0)) b
+    served : (b : Body) → m .body ≡ b → answered ≡ serve c m (entryIn bench maker (m .identifier)) o (getD values (m .identifier) (pos 0)) b
     unfolding addressed
     served b e = act-is bench maker c o values m ∙ rw (its, u, e)
 
@@ -224,7 +226,7 @@ module _ (bench maker : List ℤ) (c : Setup) (o : Offer) (values : List ℤ) (m
 
     module _ (r : Row) (f : entryIn bench maker (m .identifier) ≡ Found r) where
       -- its entry is known
-      found : (b : Body) → m .body ≡ b → answered ≡ serve m (Found r) o (getD values (m .identifier) (pos 0)) b
+      found : (b : Body) → m .body ≡ b → answered ≡ serve c m (Found r) o (getD values (m .identifier) (pos 0)) b
       found b e = served b e ∙ rw f
 
       pub query-said : m .body ≡ body.Query → isReadable r ≡ true → answered .said ≡ Reply (answerTo m Accepted (Number (withDecimals (getD values (m .identifier) (pos 0)) (r .decimals))))
@@ -235,10 +237,10 @@ module _ (bench maker : List ℤ) (c : Setup) (o : Offer) (values : List ℤ) (m
       unfolding serve up moves declines shownBy says
       up-refused b k h = ap (λ (x : Effect). x .said) (found body.Up b) ∙ rw (k, h)
 
-      module _ (n : ℤ) (b : m .body ≡ body.Set (withDecimals n (r .decimals))) (w : isWritable r ≡ true) (h : inRange (r .least) n (r .greatest) ≡ true) where
+      module _ (n : ℤ) (b : m .body ≡ body.Set (numeral (withDecimals n (r .decimals)))) (w : isWritable r ≡ true) (h : inRange (r .least) n (r .greatest) ≡ true) where
         taken : answered ≡ offers m r n
-        unfolding serve setTo
-        taken = found (body.Set (withDecimals n (r .decimals))) b ∙ rw (w, eq-eqb (r .decimals) (r .decimals) refl, h)
+        unfolding serve setTo takesZero asksMinusZero
+        taken = found (body.Set (numeral (withDecimals n (r .decimals)))) b ∙ rw (w, eq-eqb (r .decimals) (r .decimals) refl, h)
 
         pub set-said : answered .said ≡ Reply (answerTo m Offered (Number (withDecimals (cut n (r .step)) (r .decimals))))
         unfolding offers

@@ -1,5 +1,5 @@
 -- What a card does with a heard message: what it says, the offer afterwards, and what is stored. Document 01, "What the card does",
--- as document 02, tickets 1 and 2, change it.
+-- as document 02, tickets 1, 2 and 5, change it.
 -- Up to "the scan", v is the value stored for the message's identifier; behind it e and v give the entry in the sheets and the value of every
 -- identifier.
 use mathlib.Core.Bool.{Bool, cond, not}
@@ -82,7 +82,7 @@ granted m r o v body.Status = says m Accepted Empty
 granted m r o v body.Query = says m Accepted (Number (withDecimals v (r .decimals)))
 granted m r o v body.Up = accepts m (raised v (r .step)) (r .decimals)
 granted m r o v body.Down = accepts m (lowered v (r .step)) (r .decimals)
-granted m r o v (body.Set x) = offers m r (x .number)
+granted m r o v (body.Set x) = offers m r (x .value .number)
 granted m r o v body.Store = accepts m (valueOn o) (r .decimals)
 
 -- ---- the scan. Document 02, ticket 1: "A card names five identifiers for it, in order, repeats allowed; a 20-digit form with four"
@@ -148,6 +148,10 @@ act bench maker c o values m = respond c o (entryIn bench maker) (λ (i : ℕ). 
 -- and its tests
 unfoldable pub causesIn : List ℤ → List ℤ → Setup → Offer → List ℤ → Message → List Check
 causesIn bench maker c o values m = causesWith c o (entryIn bench maker) (λ (i : ℕ). getD values i (pos 0)) m
+
+-- the same setup of another revision; claims cite it, and no call
+abbrev pub ofRevision : ℕ → Setup → Setup
+ofRevision n c = record { letter = c .letter; address = c .address; count = c .count; scan = c .scan; revision = n }
 
 -- ---- several messages
 

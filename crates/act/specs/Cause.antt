@@ -1,5 +1,5 @@
 -- Why a card doesn't accept a message: one list of tests, in the paper's order. What it accepts is what none of them turns down.
--- Document 02, ticket 4.
+-- Document 02, tickets 4 and 5.
 use mathlib.Core.Bool.{Bool, true, false, not, _&&_, _||_}
 use mathlib.Core.List.{List, [], _∷_}
 use Prim.Native.Nat.{ℕ}
@@ -11,6 +11,7 @@ use Rattle.number.specs.Number.{inRange, raised, lowered}
 use Rattle.message.specs.declared.Body.{Body}
 use Rattle.message.specs.declared.Body.the-variants as body
 use Rattle.message.specs.declared.Message.{Message}
+use Rattle.message.specs.Message.{asksMinusZero}
 use Rattle.sheet.specs.declared.Row.{Row}
 use Rattle.sheet.specs.declared.Entry.{Entry}
 use Rattle.sheet.specs.declared.Entry.the-variants.{Found, Missing}
@@ -20,7 +21,7 @@ use Rattle.act.specs.declared.Offer.{Offer}
 use Rattle.act.specs.declared.Offer.the-variants.{Nothing, Held}
 use Rattle.act.specs.declared.causes.Standing.{Standing}
 use Rattle.act.specs.declared.causes.Cause.{Cause}
-use Rattle.act.specs.declared.causes.Cause.the-variants.{None, NoSuchIdentifier, Access, WrongDecimals, OutOfRange, AtLimit, NotForThisCard, NoOffer, NoMessageClosed, NotWellFormed}
+use Rattle.act.specs.declared.causes.Cause.the-variants.{None, NoSuchIdentifier, Access, WrongDecimals, OutOfRange, AtLimit, NotForThisCard, NoOffer, NoMessageClosed, NotWellFormed, MinusZero}
 
 -- ---- the causes by their codes
 
@@ -32,12 +33,13 @@ pub record Why : Type 0 where
 abbrev pub why : ℕ → ℕ → Why
 why n p = record { code = n; position = p }
 
--- 4 is kept for ticket 5
+-- in the order of the tests
 abbrev pub whyOf : Cause → Why
 whyOf None = why 0 0
 whyOf NoSuchIdentifier = why 1 0
 whyOf Access = why 2 0
 whyOf WrongDecimals = why 3 0
+whyOf MinusZero = why 4 0
 whyOf OutOfRange = why 5 0
 whyOf AtLimit = why 6 0
 whyOf NotForThisCard = why 7 0
@@ -82,7 +84,7 @@ standing there r o v i body.Query = stands true there (isReadable r) true true t
 standing there r o v i body.Up = movesTo there r (raised v (r .step))
 standing there r o v i body.Down = movesTo there r (lowered v (r .step))
 standing there r o v i (body.Set x) =
-    stands true there (isWritable r) (eqb (x .decimals) (r .decimals)) (inRange (r .least) (x .number) (r .greatest)) true
+    stands true there (isWritable r) (eqb (x .value .decimals) (r .decimals)) (inRange (r .least) (x .value .number) (r .greatest)) true
 standing there r o v i body.Store = stands (isOffered o i) true true true true true
 
 -- by its entry in the sheets
@@ -103,12 +105,16 @@ onBracket some body.Store = stands false some false true true true
 unfoldable pub isFor : Setup → Message → Bool
 isFor c m = eqb (m .letter) (c .letter) && eqb (m .address) (c .address)
 
+-- document 02, ticket 5: "A card states its revision, 1 or 2: the first treats both alike, the second answers a Type 3 of minus zero with `N`"
+unfoldable pub takesZero : Setup → Body → Bool
+takesZero c b = not (asksMinusZero b && eqb (c .revision) 2)
+
 -- one line of the list: a test, and the cause where it is not passed
 abbrev pub unless : Bool → Cause → Check
 unless b x = record { holds = not b; number = causeCode x }
 
 -- "no such identifier, access forbids it, wrong decimals, out of range (Type 3), or at the limit on a step. They are tested in that order";
--- silences "in this order: not for this card, Type 4 without its offer"
+-- ticket 5: "`minus zero`, after wrong decimals"; silences "in this order: not for this card, Type 4 without its offer"
 unfoldable pub causes : Setup → Message → Standing → List Check
 causes c m s =
     unless (isFor c m) NotForThisCard
@@ -116,6 +122,7 @@ causes c m s =
     ∷ unless (s .exists) NoSuchIdentifier
     ∷ unless (s .allowed) Access
     ∷ unless (s .matching) WrongDecimals
+    ∷ unless (takesZero c (m .body)) MinusZero
     ∷ unless (s .within) OutOfRange
     ∷ unless (s .reachable) AtLimit
     ∷ []
@@ -125,11 +132,15 @@ abbrev pub because : Outcome (Unit {0}) → Why
 because (refused n) = why n 0
 because (gave x) = whyOf None
 
--- ---- two kinds of causes, for the claims; no call uses them
+-- ---- kinds of causes, for the claims; no call uses them
 
--- "no such identifier, access forbids it, wrong decimals, out of range (Type 3), or at the limit on a step"
+-- "no such identifier, access forbids it, wrong decimals, out of range (Type 3), or at the limit on a step"; ticket 5: "`minus zero`"
 unfoldable pub causesOfN : List Cause
-causesOfN = NoSuchIdentifier ∷ Access ∷ WrongDecimals ∷ OutOfRange ∷ AtLimit ∷ []
+causesOfN = NoSuchIdentifier ∷ Access ∷ WrongDecimals ∷ MinusZero ∷ OutOfRange ∷ AtLimit ∷ []
+
+-- those of a Type 3 up to minus zero
+unfoldable pub upToMinusZero : List Cause
+upToMinusZero = NoSuchIdentifier ∷ Access ∷ WrongDecimals ∷ MinusZero ∷ []
 
 -- "not for this card, Type 4 without its offer, no message closed by this word"; and not well formed, whatever the position
 unfoldable pub silences : List Cause

@@ -6,7 +6,7 @@ use Prim.Native.Nat.{ℕ}
 use lib.Dec.{eqb}
 use lib.IntN.{ℤ}
 use Rattle.refusal.specs.Check.{Check, first, decided}
-use Rattle.number.specs.declared.Decimal.{Decimal}
+use Rattle.number.specs.declared.Numeral.{Numeral}
 use Rattle.number.specs.Data.{withDecimals}
 use Rattle.number.specs.Number.{inRange, raised, lowered}
 use Rattle.message.specs.declared.Body.{Body}
@@ -23,7 +23,7 @@ use Rattle.act.specs.declared.Setup.{Setup}
 use Rattle.act.specs.declared.Offer.{Offer}
 use Rattle.act.specs.declared.Offer.the-variants.{Nothing, Held}
 use Rattle.act.specs.declared.Effect.{Effect}
-use Rattle.act.specs.Cause.{rowOrZeros, onEntry, onBracket, isFor, causes}
+use Rattle.act.specs.Cause.{rowOrZeros, onEntry, onBracket, isFor, takesZero, causes}
 use Rattle.act.specs.Act.{noEffect, silent, noNumber, says, accepts, shownBy, offers, granted, hasScan, valueOf, scanOf, turnedDown}
 
 -- `N`, offer gone
@@ -50,10 +50,12 @@ down m (Found r) v = moves m r v (lowered v (r .step))
 down m Missing v = declines m Missing v
 
 -- Type 3: "accepted if the row exists, isn't read only, the decimals equal the row's, and the number is in range"
-unfoldable pub setTo : Message → Entry → ℤ → Decimal → Effect
-setTo m (Found r) v x =
-    cond (isWritable r && eqb (x .decimals) (r .decimals) && inRange (r .least) (x .number) (r .greatest)) (offers m r (x .number)) (declines m (Found r) v)
-setTo m Missing v x = declines m Missing v
+-- ticket 5: "the second answers a Type 3 of minus zero with `N`"
+unfoldable pub setTo : Setup → Message → Entry → ℤ → Numeral → Effect
+setTo c m (Found r) v x =
+    cond (isWritable r && eqb (x .value .decimals) (r .decimals) && takesZero c (body.Set x) && inRange (r .least) (x .value .number) (r .greatest))
+    (offers m r (x .value .number)) (declines m (Found r) v)
+setTo c m Missing v x = declines m Missing v
 
 -- Type 4: "if the offer is for this identifier, it is stored and replied with `A`. If not, silence."
 unfoldable pub store : Message → Entry → Offer → Effect
@@ -61,13 +63,13 @@ store m e (Held i z) = cond (eqb i (m .identifier)) (accepts m z (rowOrZeros e .
 store m e Nothing = silent
 
 -- a message for this card, by its type; Type 1: "reply `A` with no data"
-unfoldable pub serve : Message → Entry → Offer → ℤ → Body → Effect
-serve m e o v body.Status = says m Accepted Empty
-serve m e o v body.Query = query m e v
-serve m e o v body.Up = up m e v
-serve m e o v body.Down = down m e v
-serve m e o v (body.Set x) = setTo m e v x
-serve m e o v body.Store = store m e o
+unfoldable pub serve : Setup → Message → Entry → Offer → ℤ → Body → Effect
+serve c m e o v body.Status = says m Accepted Empty
+serve c m e o v body.Query = query m e v
+serve c m e o v body.Up = up m e v
+serve c m e o v body.Down = down m e v
+serve c m e o v (body.Set x) = setTo c m e v x
+serve c m e o v body.Store = store m e o
 
 -- "Otherwise a Type 2 or 3 on `]` is `N` with `00000`"
 unfoldable pub declinesScan : Message → Effect

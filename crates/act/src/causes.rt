@@ -6,7 +6,7 @@ ghost use lib.ListN.{getD};
 ghost use Rattle.refusal.specs.Check.{first};
 ghost use Rattle.number.specs.Number.{inRange};
 ghost use Rattle.sheet.specs.Inner.{entryAt};
-ghost use Rattle.act.specs.Cause.{whyOf, causeCode, stands, rowOrZeros, isFound, isOffered, movesTo, onEntry, onBracket, causes, because};
+ghost use Rattle.act.specs.Cause.{whyOf, causeCode, stands, rowOrZeros, isFound, isOffered, movesTo, onEntry, onBracket, takesZero, causes, because};
 ghost use Rattle.act.specs.Inner.{scanCauses, rowCauses};
 use crate::Offer;
 use crate::Setup;
@@ -28,6 +28,7 @@ pub enum Cause {
     NoOffer,
     NoMessageClosed,
     NotWellFormed(u8),
+    MinusZero,
 }
 
 // How a message stands with the card, in the order of the tests: each is true where that test is passed, or its type doesn't make it.
@@ -40,7 +41,7 @@ pub struct Standing {
     pub reachable: bool, // a step's result in range
 }
 
-// The code of a cause, 0 for none; 4 is kept free.
+// The code of a cause, 0 for none.
 pub fn cause_code(cause: Cause) -> u8
     ensures { λ r. ⌜ r ≡ causeCode cause ⌝ }
 {
@@ -55,6 +56,7 @@ pub fn cause_code(cause: Cause) -> u8
         Cause::NoOffer => 8,
         Cause::NoMessageClosed => 9,
         Cause::NotWellFormed(_) => 10,
+        Cause::MinusZero => 4,
     }
 }
 
@@ -73,6 +75,21 @@ pub fn cause_position(cause: Cause) -> u8
         Cause::NoOffer => 0,
         Cause::NoMessageClosed => 0,
         Cause::NotWellFormed(at) => at,
+        Cause::MinusZero => 0,
+    }
+}
+
+// Only a card of revision 2 declines minus zero.
+fn takes_zero(setup: Setup, body: Body) -> bool
+    ensures { λ r. ⌜ r ≡ takesZero setup body ⌝ }
+{
+    match body {
+        Body::Status => true,
+        Body::Query => true,
+        Body::Up => true,
+        Body::Down => true,
+        Body::Set(x) => !(x.minus_zero & (setup.revision == 2)),
+        Body::Store => true,
     }
 }
 
@@ -94,6 +111,10 @@ fn first_cause(setup: Setup, message: Message, standing: Standing) -> Cause
     }
     if !standing.matching {
         return Cause::WrongDecimals;
+    }
+    let body = message.body;
+    if !takes_zero(setup, body) {
+        return Cause::MinusZero;
     }
     if !standing.within {
         return Cause::OutOfRange;
@@ -201,8 +222,8 @@ fn on_entry(entry: Entry, offer: Offer, value: i32, identifier: u8, body: Body) 
         Body::Set(x) => asks(
             entry,
             sheet::is_writable(row),
-            x.decimals == row.decimals,
-            within_row(row, x.number),
+            x.value.decimals == row.decimals,
+            within_row(row, x.value.number),
             true,
         ),
         Body::Store => without_number(is_offered(offer, identifier), true, true),

@@ -10,6 +10,7 @@ ghost use Rattle.act.specs.Inner.{declines, query, moves, up, down, setT
 use message::Body;
 use message::Message;
 use number::Decimal;
+use number::Numeral;
 use reply::Answer;
 use reply::Content;
 use reply::Mark;
@@ -27,6 +28,7 @@ pub struct Setup {
     pub address: u8,
     pub count: u8,
     pub scan: [u8; MOST_NAMED],
+    pub revision: u8,
 }
 
 // A number that a Type 3 message left, to be stored by a Type 4.
@@ -209,17 +211,19 @@ fn offers(message: Message, row: Row, number: i32) -> Effect
 }
 
 // Type 3: the range is tested before the cut.
-fn set_to(message: Message, entry: Entry, value: i32, x: Decimal) -> Effect
-    ensures { λ r. ⌜ r ≡ setTo message entry value x ⌝ }
+fn set_to(setup: Setup, message: Message, entry: Entry, value: i32, x: Numeral) -> Effect
+    ensures { λ r. ⌜ r ≡ setTo setup message entry value x ⌝ }
 {
     let Entry::Found(row) = entry else {
         return declines(message, entry, value);
     };
+    let asked = x.value;
     if sheet::is_writable(row)
-        & (x.decimals == row.decimals)
-        & number::in_range(row.least, x.number, row.greatest)
+        & (asked.decimals == row.decimals)
+        & !(x.minus_zero & (setup.revision == 2))
+        & number::in_range(row.least, asked.number, row.greatest)
     {
-        offers(message, row, x.number)
+        offers(message, row, asked.number)
     } else {
         declines(message, entry, value)
     }
@@ -249,15 +253,22 @@ fn store_offer(message: Message, entry: Entry, offer: Offer) -> Effect
 }
 
 // A message for this card, by its type.
-fn serve(message: Message, entry: Entry, offer: Offer, value: i32, body: Body) -> Effect
-    ensures { λ r. ⌜ r ≡ serve message entry offer value body ⌝ }
+fn serve(
+    setup: Setup,
+    message: Message,
+    entry: Entry,
+    offer: Offer,
+    value: i32,
+    body: Body,
+) -> Effect
+    ensures { λ r. ⌜ r ≡ serve setup message entry offer value body ⌝ }
 {
     match body {
         Body::Status => says(message, Mark::Accepted, Content::Empty),
         Body::Query => query(message, entry, value),
         Body::Up => up(message, entry, value),
         Body::Down => down(message, entry, value),
-        Body::Set(x) => set_to(message, entry, value, x),
+        Body::Set(x) => set_to(setup, message, entry, value, x),
         Body::Store => store_offer(message, entry, offer),
     }
 }
@@ -389,5 +400,5 @@ pub fn on_row<'a>(
     let entry = sheet::find_at(bench, maker, places, identifier);
     let value = value_at(values, identifier);
     let body = message.body;
-    serve(message, entry, offer, value, body)
+    serve(setup, message, entry, offer, value, body)
 }

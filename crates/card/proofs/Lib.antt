@@ -6,3 +6,4 @@ pub mod Settled
 pub mod Runs
 pub mod Plays
 pub mod Said
+pub mod Revised

@@ -2,18 +2,19 @@
 -- the same, and so do two recordings with the same messages for this card. And a run with room for every reply is a play of all the words.
 -- Assumes nothing.
 use mathlib.Core.Path.{_≡_, refl, sym, ap, _∙_}
-use mathlib.Core.Bool.{cond}
-use mathlib.Core.List.{List, [], _∷_, _++_}
+use mathlib.Core.Bool.{cond, false}
+use mathlib.Core.List.{List, [], _∷_, _++_, map}
 use Prim.Native.Nat.{ℕ, suc, _+_, _-_, _≤_}
 use native.Mathlib.Omega.{arith}
 use borrow.Author.Tests.{le-leb}
-use lib.Dec.{leb}
+use lib.Dec.{leb, eqb}
 use lib.IntN.{ℤ}
 use lib.ListN.{length, length-append}
 use Rattle.refusal.proofs.Logic.{by-test}
 use Rattle.message.specs.declared.Message.{Message}
 use Rattle.message.specs.declared.Parsed.{Parsed}
 use Rattle.message.specs.declared.Parsed.the-variants.{Heard, Unheard}
+use Rattle.message.specs.Message.{unsignedZero}
 use Rattle.hearing.specs.Hearing.{none, hear, before, heardFrom}
 use Rattle.hearing.specs.Normal.{normal}
 use Rattle.hearing.proofs.Heard.{heard-start, heard-end, heard-word, before-heard, before-unheard}
@@ -25,6 +26,7 @@ use Rattle.act.specs.declared.Effect.{Effect}
 use Rattle.act.specs.Cause.{isFor}
 use Rattle.act.specs.Act.{ours, act}
 use Rattle.act.proofs.OnOffer.{act-neighbour, ours-none, ours-own, ours-other}
+use Rattle.act.proofs.Zeros.{zeros-act}
 use Rattle.card.specs.declared.Card.{Card}
 use Rattle.card.specs.Turn.{Turn, replyOf, effectOf, turned, turn, stored, Played, stopped, after, play}
 use Rattle.card.proofs.Turns.{effects}
@@ -125,6 +127,25 @@ module _ (bench maker : List ℤ) where
       by-test (isFor s m)
       (λ t. ap (lead (replyOf (x .said))) (obey-ours s (x .offer) (stored values (x .store)) ms) ∙ ap (obey s o values) (sym (ours-own s m ms t)))
       (λ t. ap obeys (act-neighbour bench maker m s o values t) ∙ obey-ours s o values ms ∙ ap (obey s o values) (sym (ours-other s m ms t)))
+
+  -- where the revision is not the second, a message is obeyed as with zero in place of minus zero
+  obey-zeros : (s : Setup) (o : Offer) (values : List ℤ) (ms : List Message) → eqb (s .revision) 2 ≡ false → obey s o values (map unsignedZero ms) ≡ obey s o values ms
+  unfolding obey
+  obey-zeros s o values [] t = refl
+  obey-zeros s o values (m ∷ ms) t =
+      let obeys : Effect → Left = λ e. lead (replyOf (e .said)) (obey s (e .offer) (stored values (e .store)) (map unsignedZero ms)) in
+      let x : Effect = act bench maker s o values m in
+      ap obeys (zeros-act s m t o bench maker values) ∙ ap (lead (replyOf (x .said))) (obey-zeros s (x .offer) (stored values (x .store)) ms t)
+
+  -- so two recordings that are heard alike but for the sign of zero leave the same
+  pub left-zeros : (c : Card) (values : List ℤ) (a b : List ℕ) → eqb (c .setup .revision) 2 ≡ false
+      → map unsignedZero (heardFrom (c .pending) a) ≡ map unsignedZero (heardFrom (c .pending) b) → leftBy (all c values a) ≡ leftBy (all c values b)
+  left-zeros c values a b t e =
+      obeyed c values a
+      ∙ sym (obey-zeros (c .setup) (c .offer) values (heardFrom (c .pending) a) t)
+      ∙ ap (obey (c .setup) (c .offer) values) e
+      ∙ obey-zeros (c .setup) (c .offer) values (heardFrom (c .pending) b) t
+      ∙ sym (obeyed c values b)
 
   -- so two recordings with the same messages for this card leave the same
   pub left-ours : (c : Card) (values : List ℤ) (a b : List ℕ) → ours (c .setup) (heardFrom (c .pending) a) ≡ ours (c .setup) (heardFrom (c .pending) b) → leftBy (all c values a) ≡ leftBy (all c values b)

@@ -41,7 +41,7 @@ use Rattle.act.proofs.OnOffer.{Leaves, act-leaves, act-neighbour}
 use Rattle.act.proofs.Effects.{Allowed, Fair, FairScan, Good, good-silence, good-act}
 use Rattle.card.specs.declared.Card.{Card}
 use Rattle.card.specs.Turn.{effectOf, turn, stored}
-use Rattle.card.specs.Refusals.{soundSetup, soundCard, offerable, soundOffer, noScanRow, soundScan}
+use Rattle.card.specs.Refusals.{isRevision, soundSetup, soundCard, offerable, soundOffer, noScanRow, soundScan}
 use Rattle.card.proofs.Turns.{effects, turn-card, turn-store}
 
 -- ---- a sound card
@@ -59,9 +59,13 @@ unfolding soundCard
 parts-card c p = and-both (p .is-set) (p .is-open)
 
 -- a setup that a message's letter and address make
-pub setup-sound : (s : Setup) → isLetter (s .letter) ≡ true → isAddress (s .address) ≡ true → soundSetup s ≡ true
+pub setup-sound : (s : Setup) → isLetter (s .letter) ≡ true → isAddress (s .address) ≡ true → isRevision (s .revision) ≡ true → soundSetup s ≡ true
 unfolding soundSetup
-setup-sound s p q = and-both p q
+setup-sound s p q r = and-both (and-both p q) r
+
+pub first-revision : isRevision 1 ≡ true
+unfolding isRevision
+first-revision = refl
 
 -- ---- a sound offer
 
@@ -96,7 +100,7 @@ module _ (bench maker : List ℤ) where
   leaves-sound m i z l =
       let r = l .row in
       let f : entryIn bench maker i ≡ Found r = ap (entryIn bench maker) (sym (l .its)) ∙ l .found in
-      let c = cut-fits r (entry-sound bench maker i r f) (l .number .number) (l .in-range) in
+      let c = cut-fits r (entry-sound bench maker i r f) (l .number .value .number) (l .in-range) in
       parts-offer i z (record { allowed = record { row = r; found = f; fits = rw (l .value) at c }; writable = l .writable })
 
   act-sound : (s : Setup) (o : Offer) (values : List ℤ) (m : Message) → soundOffer bench maker o ≡ true → soundOffer bench maker (act bench maker s o values m .offer) ≡ true

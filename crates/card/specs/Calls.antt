@@ -14,6 +14,7 @@ use Rattle.card.specs.declared.RunAnswer.{RunAnswer}
 use Rattle.card.specs.declared.RunAnswer.the-variants as run
 use Rattle.card.specs.declared.Ran.{Ran}
 use Rattle.act.specs.Cause.{Why, whyOf}
+use Rattle.act.specs.Act.{ofRevision}
 use Rattle.card.specs.Cause.{whyTo}
 use Rattle.card.specs.Turn.{Turn, turn, stored, Played, play}
 use Rattle.card.specs.Refusals.{cardChecks, stepChecks}
@@ -24,6 +25,13 @@ pub record After (A : Type 0) : Type 0 where
   pub outcome : Outcome A
   pub values : List ℤ
   pub buffer : List ℕ
+
+-- the same card of another revision, and what a call on it leaves; claims cite these, and no call
+abbrev pub revised : ℕ → Card → Card
+revised n c = record { setup = ofRevision n (c .setup); pending = c .pending; offer = c .offer }
+
+abbrev pub revisedAfter : {A : Type 0} → ℕ → After A → After A
+revisedAfter n a = record { card = revised n (a .card); outcome = a .outcome; values = a .values; buffer = a .buffer }
 
 -- document 01: "No refusal changes anything lent."
 abbrev pub kept : {A : Type 0} → Card → List ℤ → List ℕ → ℕ → After A

@@ -23,9 +23,13 @@ use Rattle.act.specs.declared.Offer.{Offer}
 use Rattle.act.specs.declared.Offer.the-variants.{Nothing, Held}
 use Rattle.card.specs.declared.Card.{Card}
 
+-- document 02, ticket 5: "A card states its revision, 1 or 2"; "an unknown revision is number 1"
+unfoldable pub isRevision : ℕ → Bool
+isRevision n = eqb n 1 || eqb n 2
+
 -- document 01, number 1: "letter, address"
 unfoldable pub soundSetup : Setup → Bool
-soundSetup s = isLetter (s .letter) && isAddress (s .address)
+soundSetup s = isLetter (s .letter) && isAddress (s .address) && isRevision (s .revision)
 
 -- document 01, number 1, in its first place: "letter, address, open message"
 unfoldable pub soundCard : Card → Bool

@@ -133,7 +133,10 @@ impl Card {
 fn sound_setup(setup: Setup) -> bool
     ensures { λ r. ⌜ r ≡ soundSetup setup ⌝ }
 {
-    message::is_letter(setup.letter) & message::is_address(setup.address)
+    let revision = setup.revision;
+    message::is_letter(setup.letter)
+        & message::is_address(setup.address)
+        & ((revision == 1) | (revision == 2))
 }
 
 // The card by itself: its setup and its open message.

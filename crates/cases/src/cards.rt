@@ -1,4 +1,4 @@
-// The cards of the cases: the sheets, the values at the start, the letter and the scan of each.
+// The cards of the cases: the sheets, the values at the start, the letter, the scan and the revision of each.
 use crate::player::Outcome;
 use crate::player::both;
 use crate::reader::address_of;
@@ -30,14 +30,32 @@ const FOUR: [u8; 5] = [b'J', b'm', b'M', b'J', 0];
 
 const DECIMALS: [u8; 5] = [b'a', b'b', b'c', b'd', 0];
 
-// The setup of a card whose address stands in the line.
+// A small letter is the second revision of the card with the capital.
+fn revision_of(card: &[u8]) -> u8 {
+    if card.len() == 0 {
+        return 1;
+    }
+    if card[0] < b'a' { 1 } else { 2 }
+}
+
+fn capital(c: u8) -> u8 {
+    if c < b'a' {
+        return c;
+    }
+    c - 32
+}
+
+// The setup of a card whose address and revision stand in the line.
 fn setup_of(line: &[u8], letter: u8, count: u8, scan: [u8; 5]) -> Setup {
-    let address = address_of(field(line, 1));
+    let card = field(line, 1);
+    let address = address_of(card);
+    let revision = revision_of(card);
     Setup {
         letter,
         address,
         count,
         scan,
+        revision,
     }
 }
 
@@ -112,7 +130,7 @@ pub(crate) fn play(line: &[u8]) -> Outcome {
     if card.len() == 0 {
         return Outcome::Differs(0);
     }
-    match card[0] {
+    match capital(card[0]) {
         b'B' => on_bench(setup_of(line, b'L', 0, NO_SCAN), line),
         b'E' => on_bench(setup_of(line, b'L', 5, FIVE), line),
         b'F' => on_bench(setup_of(line, b'R', 4, FOUR), line),

@@ -16,7 +16,8 @@
 //     U  UDI 1500; scan `M` `A` `B` `T` `L`
 //     T  rows `a` to `d` for Table 5-1; scan `a` `b` `c` `d`
 //
-// The letter is `L` where none is named; no message open and no offer.
+// In small letters, as `b` or `c33`, it is the same card of revision 2; otherwise its revision is 1. The letter is `L` where none is named;
+// no message open and no offer.
 // CHANGE is one initial value that the case has otherwise, as `m=1000`, in units of the last decimal; `-` where there is none.
 // SENT is a message, each character in good parity, but for `{256}`, a silence; `{M!}`, an `M` in bad parity; `{sp}`, a space.
 // ANSWER is what the card says to all of it, and `-` is silence. It may end in the cause that the last word of SENT gives word by word, as

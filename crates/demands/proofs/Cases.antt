@@ -10,17 +10,20 @@ use lib.IntN.{ℤ, pos}
 use lib.ListN.{length}
 use Rattle.refusal.specs.Lists.{every, same}
 use Rattle.refusal.specs.Buffer.{laid}
-use Rattle.refusal.specs.Check.{Check, first}
+use Rattle.refusal.specs.Call.{writes}
+use Rattle.refusal.specs.Check.{Check}
+use Rattle.refusal.specs.Check as check
 use Rattle.refusal.proofs.Logic.{allBelow}
 use Rattle.wire.specs.Text.{chars}
 use Rattle.wire.specs.Word.{evenParity, withParity, received, travelling, validWords}
 use Rattle.number.specs.Number.{inRange, isMultiple, cutDown, cut, raised, lowered}
-use Rattle.number.specs.Data.{digit, isDigit, digitOf, fits, codeOf, fiveDigits, spellData, spellAll, decode, readNext, readFrom, readData}
-use Rattle.message.specs.Message.{isLetter, isAddress, isIdentifier}
+use Rattle.number.specs.Data.{digit, isDigit, digitOf, fits, fitsNumeral, spellNumeral, codeOf, fiveDigits, spellData, spellAll, decode, readNext, readFrom, readData}
+use Rattle.message.specs.Message.{isLetter, isAddress, isIdentifier, asksMinusZero}
 use Rattle.message.specs.Prefix.{extendIdentifier, extendAddress, extendData, extendBody, extend, extendAll, finish, parse}
 use Rattle.message.specs.Position.{isWrong, matched, position}
-use Rattle.message.specs.Spell.{spellAddress}
+use Rattle.message.specs.Spell.{spellAddress, kindOf, spellKind, spellOpen, spell}
 use Rattle.hearing.specs.Hearing.{none, added, openOf, opening, continuing, actionOf, perform, hear, before, heardFrom, heard}
+use Rattle.hearing.specs.Normal.{wordsOf, normal, normalCall}
 use Rattle.hearing.specs.Sound.{plainChar, plain, zeros, soundPending}
 use Rattle.sheet.specs.Sheet.{rows, soundIdentifier, soundNumbers, soundRow, soundRows, soundSheet}
 use Rattle.sheet.specs.Lookup.{codeIs, rowAmong, placeAmong, rowIn, placeIn, hasRow, rowOf}
@@ -33,25 +36,39 @@ use Rattle.act.specs.declared.Setup.{Setup}
 use Rattle.act.specs.declared.Offer.{Offer}
 use Rattle.act.specs.declared.Offer.the-variants.{Nothing}
 use Rattle.act.specs.declared.causes.Cause.the-variants.{None, NoMessageClosed, NotWellFormed}
-use Rattle.act.specs.Cause.{why, whyOf, isFor, isOffered, standing, onBracket, causes}
+use Rattle.act.specs.Cause.{why, whyOf, isFor, isOffered, standing, onBracket, takesZero, causes}
 use Rattle.act.specs.Act.{namesFrom, valueOf, scanOf, says, accepts, shownBy, offers, granted, turnedDown, respond, act, causesIn}
 use Rattle.card.specs.Turn.{effectOf, turned, turn, stored, play}
 use Rattle.card.specs.Cause.{whyClosed, whyAfter, whyTo}
-use Rattle.card.specs.Refusals.{soundScan, soundSetup, soundCard, offerable, soundOffer, cardChecks, stepChecks}
+use Rattle.card.specs.Refusals.{isRevision, soundScan, soundSetup, soundCard, offerable, soundOffer, cardChecks, stepChecks}
 use Rattle.card.specs.Calls.{stepCall, runCall}
 use Rattle.demands.specs.Terms.{Sound}
 use Rattle.demands.specs.Causes.{sameWhy, isAmong, gaveCause, drawsIt, causeCases, everyCause, hasCase}
-use Rattle.demands.specs.Bench.{benchRows, benchValues, benchCard, Case, benchCases, twentyNeighbours, moreCases, scanCases, noReplies, timeRow, scanValues, scanCard, equalZ, took, answersAll, passes, passesScan, isNoReply}
+use Rattle.demands.specs.Zeros.{zeroForms, isOwnForm}
+use Rattle.demands.specs.Bench.{benchRows, benchValues, cardWith, benchCard, Case, benchCases, twentyNeighbours, moreCases, firstCases, secondCases, scanCases, noReplies, timeRow, scanValues, equalZ, took, answersAll, passesOn, passes, passesScan, isNoReply}
 
 -- what a table computes through
 computed : List Case → Bool
-unfolding ones onesIn every same laid first evenParity withParity received travelling validWords inRange isMultiple cutDown cut raised lowered digit isDigit digitOf fits codeOf fiveDigits spellData decode readNext readFrom readData isLetter isAddress isIdentifier extendIdentifier extendAddress extendData extendBody extend extendAll finish parse spellAddress none added openOf opening continuing actionOf perform hear plainChar plain zeros soundPending rows soundIdentifier soundNumbers soundRow soundRows soundSheet codeIs lookup.isFor rowAmong placeAmong rowIn placeIn hasRow rowOf numbersOf entryOf entryIn isReadable isWritable isReadWrite fitsRow fitsPlace soundFrom soundValues spellContent spellAnswer says accepts shownBy offers granted isOffered standing onBracket isFor causes turnedDown respond act effectOf turned turn stored play soundSetup soundCard offerable soundOffer isReadableEntry namesFrom soundScan cardChecks runCall benchRows benchValues benchCard equalZ took answersAll passes
+unfolding ones onesIn every same laid check.first evenParity withParity received travelling validWords inRange isMultiple cutDown cut raised lowered digit isDigit digitOf fits codeOf fiveDigits spellData decode readNext readFrom readData isLetter isAddress isIdentifier extendIdentifier extendAddress extendData extendBody extend extendAll finish parse spellAddress none added openOf opening continuing actionOf perform hear plainChar plain zeros soundPending rows soundIdentifier soundNumbers soundRow soundRows soundSheet codeIs lookup.isFor rowAmong placeAmong rowIn placeIn hasRow rowOf numbersOf entryOf entryIn isReadable isWritable isReadWrite fitsRow fitsPlace soundFrom soundValues spellContent spellAnswer says accepts shownBy offers granted isOffered standing onBracket isFor takesZero asksMinusZero causes turnedDown respond act effectOf turned turn stored play isRevision soundSetup soundCard offerable soundOffer isReadableEntry namesFrom soundScan cardChecks runCall benchRows benchValues cardWith benchCard equalZ took answersAll passesOn
 computed xs = every passes xs
 
 -- cases a to l
 pub bench : every passes benchCases ≡ true
 unfolding computed benchCases
 bench = refl
+
+-- both zeros, on the first revision and on the second
+pub first : every passes firstCases ≡ true
+unfolding computed firstCases
+first = refl
+
+pub second : every (passesOn 2) secondCases ≡ true
+unfolding computed secondCases
+second = refl
+
+pub own-forms : every isOwnForm zeroForms ≡ true
+unfolding computed heardFrom before heard kindOf spellKind spellOpen spell spellNumeral wordsOf normal normalCall writes isOwnForm zeroForms
+own-forms = refl
 
 -- the second table
 pub more : every passes moreCases ≡ true
@@ -64,7 +81,7 @@ twenty-heard = refl
 
 -- the scan
 pub scan : every passesScan scanCases ≡ true
-unfolding computed spellScan spellAll valueOf scanOf passesScan scanCard scanValues timeRow scanCases
+unfolding computed spellScan spellAll valueOf scanOf passesScan scanValues timeRow scanCases
 scan = refl
 
 pub no-replies : every isNoReply noReplies ≡ true
@@ -73,7 +90,7 @@ no-replies = refl
 
 -- the causes, each with its position
 pub each-drawn : every drawsIt causeCases ≡ true
-unfolding computed causesIn whyClosed whyAfter whyTo isWrong matched position stepChecks stepCall scanCard sameWhy gaveCause drawsIt causeCases
+unfolding computed causesIn whyClosed whyAfter whyTo isWrong matched position stepChecks stepCall sameWhy gaveCause drawsIt causeCases
 each-drawn = refl
 
 pub all-cases : every hasCase everyCause ≡ true
@@ -105,3 +122,8 @@ sounds = soundCard benchCard && (soundSheet [] && soundSheet benchRows) && sound
 pub bench-sound : Sound [] benchRows benchCard (benchValues (pos 20))
 unfolding sounds computed
 bench-sound = record { card-sound = refl; sheets-sound = refl; offer-sound = refl; scan-sound = refl; values-sound = refl }
+
+-- both revisions are some card's
+pub both-revisions : isRevision 2 ≡ isRevision 1
+unfolding computed
+both-revisions = refl

@@ -54,7 +54,7 @@ use Rattle.demands.proofs.Cases.{each-drawn, all-cases, tests-known, no
 -- ---- codes
 
 -- a code is given exactly when it is the number of the first test that holds
-because-is : (o : Outcome (Unit {0})) (n : ℕ) → 0 < n → (because o ≡ why n 0) ↔ (o ≡ refused n)
+pub because-is : (o : Outcome (Unit {0})) (n : ℕ) → 0 < n → (because o ≡ why n 0) ↔ (o ≡ refused n)
 because-is (refused k) n h = (λ e. ap refused (ap (λ (y : Why). y .code) e), λ e. ap (λ (j : ℕ). why j 0) (refused-is e))
 because-is (gave tt) n h = (λ e. absurd (omega (arith, ap (λ (y : Why). y .code) e)), λ e. absurd (refused-gave (sym e)))
 
@@ -100,7 +100,7 @@ module _ (bench maker : List ℤ) (c : Card) (values : List ℤ) where
   -- ---- a word by what it closes
 
   module _ (w : ℕ) where
-    by-closed : {X : Type 0} → ((m : Message) → Closes c w → parse (openOf (c .pending)) ≡ Heard m → X) → (Closes c w → parse (openOf (c .pending)) ≡ Unheard → X) → ((Closes c w → ⊥) → X) → X
+    pub by-closed : {X : Type 0} → ((m : Message) → Closes c w → parse (openOf (c .pending)) ≡ Heard m → X) → (Closes c w → parse (openOf (c .pending)) ≡ Unheard → X) → ((Closes c w → ⊥) → X) → X
     by-closed {X} heard unheard none = go (actionOf (c .pending) w) refl
       where
         mark : Action → ℕ
@@ -156,7 +156,7 @@ module _ (bench maker : List ℤ) (c : Card) (values : List ℤ) where
       served-is : s ≡ record { bytes = length (turn bench maker c values w .reply); cause = whyTo bench maker c values w }
       served-is = gave-is (sym g ∙ ap (λ (a : After WordAnswer). a .outcome) (step-made .leaves))
 
-      cause-is : s .cause ≡ whyTo bench maker c values w
+      pub cause-is : s .cause ≡ whyTo bench maker c values w
       cause-is = ap (λ (x : WordAnswer). x .cause) served-is
 
       code-is : (n p : ℕ) → s .cause ≡ why n p → whyTo bench maker c values w .code ≡ n

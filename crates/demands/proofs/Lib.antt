@@ -8,3 +8,4 @@ pub mod Offers
 pub mod Recordings
 pub mod Neighbours
 pub mod Causes
+pub mod Zeros

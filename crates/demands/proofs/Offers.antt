@@ -11,11 +11,11 @@ use lib.ListN.{length, replicate}
 use Rattle.refusal.specs.Refusal.{gave}
 use Rattle.refusal.proofs.Logic.{and-left, and-right}
 use Rattle.wire.specs.Word.{withParity}
-use Rattle.number.specs.declared.Decimal.{Decimal}
+use Rattle.number.specs.declared.Numeral.{Numeral}
 use Rattle.number.specs.Number.{inRange, cut}
-use Rattle.number.specs.Data.{withDecimals}
+use Rattle.number.specs.Data.{withDecimals, numeral}
 use Rattle.number.proofs.Cuts.{cut-is, cut-multiple, cut-below, cut-greatest, cut-own}
-use Rattle.number.proofs.Reading.{within-fits}
+use Rattle.number.proofs.Reading.{within-fits, numeral-fits}
 use Rattle.message.specs.declared.Body.the-variants.{Set}
 use Rattle.message.specs.declared.Message.{Message}
 use Rattle.message.specs.declared.Parsed.{Parsed}
@@ -49,7 +49,7 @@ use Rattle.demands.proofs.Possible.{cardFor, for-itself, room, star-val
 -- ---- what a word that closes a message for this card leaves on offer
 
 module _ (bench maker : List ℤ) (c : Card) (values : List ℤ) (w : ℕ) (m : Message) (h : hear (c .pending) w .message ≡ Heard m) where
-  turn-offer : turn bench maker c values w .card .offer ≡ act bench maker (c .setup) (c .offer) values m .offer
+  pub turn-offer : turn bench maker c values w .card .offer ≡ act bench maker (c .setup) (c .offer) values m .offer
   turn-offer =
       ap (λ (x : Card). x .offer) (turn-card bench maker c values w)
       ∙ ap (λ (p : Parsed). effects bench maker c values p .offer) h
@@ -78,9 +78,9 @@ never-up = record {
       let q = call-leaves bench maker c values w m h t out k i z g l in
       let same-row : q .row ≡ r = cc (q .found) in
       let same-number : q .number ≡ x = cc (q .type-3) in
-      subst (λ (y : Decimal). NotAbove (y .number) z r) same-number
-      (subst (λ (y : Row). NotAbove (q .number .number) z y) same-row
-      (subst (λ (y : ℤ). NotAbove (q .number .number) y (q .row)) (q .value) (cut-not-above (q .row) (q .number .number) (entry-sound bench maker i (q .row) (q .found)) (q .in-range))));
+      subst (λ (y : Numeral). NotAbove (y .value .number) z r) same-number
+      (subst (λ (y : Row). NotAbove (q .number .value .number) z y) same-row
+      (subst (λ (y : ℤ). NotAbove (q .number .value .number) y (q .row)) (q .value) (cut-not-above (q .row) (q .number .value .number) (entry-sound bench maker i (q .row) (q .found)) (q .in-range))));
 }
 
 -- ---- sound offers
@@ -92,7 +92,7 @@ module _ (bench maker : List ℤ) (i : ℕ) (z : ℤ) where
 
   -- the Type 3 that asks for the value on offer
   abbrev asks : ℕ → Message
-  asks d = record { letter = code "L"; address = 1; identifier = i; body = Set (withDecimals z d) }
+  asks d = record { letter = code "L"; address = 1; identifier = i; body = Set (numeral (withDecimals z d)) }
 
   abbrev unnamed : List ℕ
   unnamed = replicate 5 0
@@ -106,13 +106,13 @@ module _ (bench maker : List ℤ) (i : ℕ) (z : ℤ) where
       let p = fits-parts r z (o .allowed .fits) in
       let b = range-small r s z (p .0) in
       let m = asks (r .decimals) in
-      let x = withDecimals z (r .decimals) in
+      let x = numeral (withDecimals z (r .decimals)) in
       let its = cardFor m 0 unnamed in
       let is-message : isMessage m ≡ true = whole m (record {
         is-letter = letter-is;
         is-address = address-is 1 (lit≤ tt) (lit≤ tt);
         is-identifier = c .0;
-        fits-body = parts-body i (Set x) (c .1, within-fits x b (s .decimals-most));
+        fits-body = parts-body i (Set x) (c .1, numeral-fits (x .value) (within-fits (x .value) b (s .decimals-most)));
       }) in
       let values = leastValues bench maker in
       let fit = least-sound bench maker (and-left (soundSheet bench) (soundSheet maker) sheets) (and-right (soundSheet bench) (soundSheet maker) sheets) in

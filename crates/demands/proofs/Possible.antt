@@ -19,9 +19,9 @@ use Rattle.wire.specs.Word.{withParity, travelling}
 use Rattle.wire.proofs.Words.{star-travels}
 use Rattle.number.specs.declared.Decimal.{Decimal}
 use Rattle.number.specs.Number.{inRange}
-use Rattle.number.specs.Data.{withDecimals, fits}
+use Rattle.number.specs.Data.{withDecimals, fits, numeral}
 use Rattle.number.proofs.Cuts.{ends-in-range, four-digits, one-multiple, cut-own}
-use Rattle.number.proofs.Reading.{fits-within}
+use Rattle.number.proofs.Reading.{fits-within, numeral-fits}
 use Rattle.number.proofs.Several.{nth}
 use Rattle.message.specs.declared.Body.{Body}
 use Rattle.message.specs.declared.Body.the-variants as body
@@ -60,7 +60,7 @@ use Rattle.card.specs.Refusals.{soundScan}
 use Rattle.card.specs.Calls.{After, WordAnswer, bytesOf}
 use Rattle.card.proofs.Turns.{effect-heard}
 use Rattle.card.proofs.Steps.{served-step}
-use Rattle.card.proofs.Sounds.{parts-card, setup-sound, nothing-sound, no-scan-row, readable-scan, no-scan}
+use Rattle.card.proofs.Sounds.{parts-card, setup-sound, first-revision, nothing-sound, no-scan-row, readable-scan, no-scan}
 use Rattle.demands.specs.Terms.{Sound, saidTo}
 use Rattle.demands.specs.Demand2.{Drawn, ReaderExact}
 use Rattle.demands.proofs.Answers.{said-bytes, said-is, writes-spelling}
@@ -69,7 +69,7 @@ use Rattle.demands.proofs.Answers.{said-bytes, said-is, writes-spelling
 
 module _ (m : Message) (names : ℕ) (scan : List ℕ) where
   abbrev pub setupFor : Setup
-  setupFor = record { letter = m .letter; address = m .address; count = names; scan = scan }
+  setupFor = record { letter = m .letter; address = m .address; count = names; scan = scan; revision = 1 }
 
   abbrev pub cardFor : Card
   cardFor = record { setup = setupFor; pending = pendingWith (spellOpen m); offer = Nothing }
@@ -81,7 +81,7 @@ module _ (m : Message) (names : ℕ) (scan : List ℕ) where
   card-sound e bench maker values p n v =
       let t = parts m e in
       record {
-        card-sound = parts-card cardFor (record { is-set = setup-sound setupFor (t .is-letter) (t .is-address); is-open = spelled-sound m e });
+        card-sound = parts-card cardFor (record { is-set = setup-sound setupFor (t .is-letter) (t .is-address) first-revision; is-open = spelled-sound m e });
         sheets-sound = p;
         offer-sound = nothing-sound bench maker;
         scan-sound = n;
@@ -214,10 +214,10 @@ module _ (l a i : ℕ) (pl : isLetter l ≡ true) (pa : isAddress a ≡ true) (p
         (there 1 r Declined body.Up
         (up-refused (oneRow i 1 d) [] (setupFor m 0 unnamed) Nothing (oneValue i n) m (for-itself m 0 unnamed) u (itsNumbers 1 d) (its 1 r) refl (read-only-not-read-write (itsNumbers 1 d) refl) (read-only-readable (itsNumbers 1 d) refl)))
     number-drawn Offered =
-        let m = asked (body.Set x) in
+        let m = asked (body.Set (numeral x)) in
         let r = ends-in-range (pos 1) (pos 2) (pos 3) refl refl in
         let h = fits-within x f .0 in
-        by-row 2 r (body.Set x) Offered (q, f)
+        by-row 2 r (body.Set (numeral x)) Offered (q, numeral-fits x f)
         (set-said (oneRow i 2 d) [] (setupFor m 0 unnamed) Nothing (oneValue i n) m (for-itself m 0 unnamed) u (itsNumbers 2 d) (its 2 r) n refl (read-write-writable (itsNumbers 2 d) (read-write-is (itsNumbers 2 d) refl)) (four-digits n h)
         ∙ ap (λ (z : ℤ). Reply (given Offered (Number (withDecimals z d)))) (cut-own (pos 1) refl n h (lit≤ tt) (one-multiple n)))
 

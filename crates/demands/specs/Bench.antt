@@ -1,4 +1,4 @@
--- The bench cases of document 01, the scan and the neighbours of document 02 as tables: each case its exchanges, message by message, and the value of m
+-- The bench cases of document 01, the scan, the neighbours and both zeros of document 02 as tables: each case its exchanges, message by message, and the value of m
 -- before and after.
 use mathlib.Core.Bool.{Bool, false, _&&_}
 use mathlib.Core.List.{List, [], _∷_, _++_}
@@ -35,9 +35,14 @@ benchRows =
 unfoldable pub benchValues : ℤ → List ℤ
 benchValues m = set (set (set (set (replicate 128 (pos 0)) (code "J") (pos 0)) (code "M") (pos 231)) (code "Z") (pos 15)) (code "m") m
 
--- "Card `L`, address 7"; "no message open and no offer"
+-- "Card `L`, address 7"; "no message open and no offer"; of this revision, with names for its scan
+unfoldable pub cardWith : ℕ → String → Card
+cardWith n names =
+    record { setup = record { letter = code "L"; address = 7; count = length (chars names); scan = take mostNamed (chars names ++ replicate mostNamed 0); revision = n }; pending = none; offer = Nothing }
+
+-- document 02, ticket 5: "Bench case i holds for the first revision"
 unfoldable pub benchCard : Card
-benchCard = record { setup = record { letter = code "L"; address = 7; count = 0; scan = replicate mostNamed 0 }; pending = none; offer = Nothing }
+benchCard = cardWith 1 ""
 
 -- a message as sent, and what is answered to it
 pub record Exchange : Type 0 where
@@ -100,6 +105,27 @@ moreCases =
     ∷ case (pos 20) ("L7m#00301*" ⇒ "L7m00301I*" ∷ "L8mI*" ⇒ "" ∷ "L7??*" ⇒ "L7?A*" ∷ "L7mI*" ⇒ "" ∷ []) (pos 20)
     ∷ []
 
+-- ---- both zeros
+
+-- document 02, ticket 5: "the first treats both alike": minus zero is offered as zero, and stored
+unfoldable pub firstCases : List Case
+unfolding case _⇒_
+firstCases =
+    case (pos 20) ("L7J#00006*" ⇒ "L7J00001I*" ∷ "L7J#00001*" ⇒ "L7J00001I*" ∷ []) (pos 20)
+    ∷ case (pos 20) ("L7m#00006*" ⇒ "L7m00001I*" ∷ "L7mI*" ⇒ "L7m00001A*" ∷ []) (pos 0)
+    ∷ case (pos 20) ("L7m#00001*" ⇒ "L7m00001I*" ∷ "L7mI*" ⇒ "L7m00001A*" ∷ []) (pos 0)
+    ∷ []
+
+-- "the second answers a Type 3 of minus zero with `N`": `N` has what it always has, and an offer is gone; zero is offered
+unfoldable pub secondCases : List Case
+unfolding case _⇒_
+secondCases =
+    case (pos 20) ("L7J#00006*" ⇒ "L7J00001N*" ∷ []) (pos 20)
+    ∷ case (pos 20) ("L7m#00301*" ⇒ "L7m00301I*" ∷ "L7m#00006*" ⇒ "L7m00201N*" ∷ "L7mI*" ⇒ "" ∷ []) (pos 20)
+    ∷ case (pos 20) ("L7m#00001*" ⇒ "L7m00001I*" ∷ "L7mI*" ⇒ "L7m00001A*" ∷ []) (pos 0)
+    ∷ case (pos 20) ("L7Z#00005*" ⇒ "L7Z00000N*" ∷ "L7]#00005*" ⇒ "L7]00000N*" ∷ []) (pos 20)
+    ∷ []
+
 -- ---- the scan
 
 -- a row with two decimals, in the bench sheet: `T` (1, 2 decimals, step 1, 0 to 9959)
@@ -109,11 +135,6 @@ timeRow = pos (code "T") ∷ pos 1 ∷ pos 2 ∷ pos 1 ∷ pos 0 ∷ pos 9959 �
 -- J is -15 and T 1234, m as given
 unfoldable pub scanValues : ℤ → List ℤ
 scanValues m = set (set (benchValues m) (code "J") (negsuc 14)) (code "T") (pos 1234)
-
--- the same card, with names for its scan
-unfoldable pub scanCard : String → Card
-scanCard names =
-    record { setup = record { letter = code "L"; address = 7; count = length (chars names); scan = take mostNamed (chars names ++ replicate mostNamed 0) }; pending = none; offer = Nothing }
 
 pub record ScanCase : Type 0 where
   pub names : String
@@ -141,7 +162,7 @@ scanCases =
     ∷ naming "mmmm" (pos 20) ("L7m+*" ⇒ "L7m00251A*" ∷ "L7]?*" ⇒ "L7]2000251002510025100251A*" ∷ []) (pos 25)
     ∷ []
 
--- replies that no sound card gives: five digits on `]` but `00000N`, another count, mark or identifier, minus zero among the values
+-- replies that no sound card gives: five digits on `]` but `00000N`, another count, mark or identifier, minus zero among the values or alone
 unfoldable pub noReplies : List String
 noReplies =
     "L7]02311A*"
@@ -151,6 +172,12 @@ noReplies =
     ∷ "L7]250231100156002011234202311N*"
     ∷ "L7M2002311001560020112342A*"
     ∷ "L7]2002311000060020112342A*"
+    ∷ "L7Z00005A*"
+    ∷ "L7J00006A*"
+    ∷ "L7J00006I*"
+    ∷ "L7J00006N*"
+    ∷ "L7T00007A*"
+    ∷ "L7J00008A*"
     ∷ []
 
 -- ---- what the tables say
@@ -173,13 +200,17 @@ answersAll bench c values (x ∷ xs) last =
     let r : After Took = runCall c bench benchRows values sent (replicate longestReply 0) in
     took (r .outcome) (length sent) (length answer) && same eqb (take (length answer) (r .buffer)) answer && answersAll bench (r .card) (r .values) xs last
 
--- a case from its start
-unfoldable pub passes : Case → Bool
-passes x = answersAll [] benchCard (benchValues (x .first)) (x .exchanges) (benchValues (x .last))
+-- a case from its start, at a card of this revision
+unfoldable pub passesOn : ℕ → Case → Bool
+passesOn n x = answersAll [] (cardWith n "") (benchValues (x .first)) (x .exchanges) (benchValues (x .last))
+
+-- the table's own is the first
+abbrev pub passes : Case → Bool
+passes x = passesOn 1 x
 
 -- with names for the scan
 unfoldable pub passesScan : ScanCase → Bool
-passesScan x = answersAll timeRow (scanCard (x .names)) (scanValues (x .played .first)) (x .played .exchanges) (scanValues (x .played .last))
+passesScan x = answersAll timeRow (cardWith 1 (x .names)) (scanValues (x .played .first)) (x .played .exchanges) (scanValues (x .played .last))
 
 -- the reader gives number 6
 unfoldable pub isNoReply : String → Bool

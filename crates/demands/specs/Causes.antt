@@ -1,4 +1,4 @@
--- Document 02, ticket 4: "the answer for a single word gives the first beside the reply". The claims are about the call `step`, for every
+-- Document 02, tickets 4 and 5: "the answer for a single word gives the first beside the reply". The claims are about the call `step`, for every
 -- input with which it is served: the cause, the bytes that it writes, and what the reader reads in them.
 use mathlib.Core.Path.{_≡_}
 use mathlib.Core.Logic.{_↔_}
@@ -25,18 +25,18 @@ use Rattle.reply.specs.declared.Mark.the-variants.{Declined}
 use Rattle.reply.specs.Read.{readCall}
 use Rattle.reply.specs.Reply.{longestReply}
 use Rattle.act.specs.declared.causes.Cause.{Cause}
-use Rattle.act.specs.declared.causes.Cause.the-variants.{None, NoSuchIdentifier, Access, WrongDecimals, OutOfRange, AtLimit, NotForThisCard, NoOffer, NoMessageClosed, NotWellFormed}
+use Rattle.act.specs.declared.causes.Cause.the-variants.{None, NoSuchIdentifier, Access, WrongDecimals, OutOfRange, AtLimit, NotForThisCard, NoOffer, NoMessageClosed, NotWellFormed, MinusZero}
 use Rattle.act.specs.Cause.{Why, why, whyOf, causesOfN, silences, isOneOf}
 use Rattle.act.specs.Act.{causesIn}
 use Rattle.card.specs.declared.Card.{Card}
 use Rattle.card.specs.Calls.{After, WordAnswer, stepCall, Took, runCall}
-use Rattle.demands.specs.Bench.{benchRows, benchValues, scanCard}
+use Rattle.demands.specs.Bench.{benchRows, benchValues, cardWith}
 
 -- ---- the causes there are
 
 unfoldable pub everyCause : List Cause
 everyCause =
-    None ∷ NoSuchIdentifier ∷ Access ∷ WrongDecimals ∷ OutOfRange ∷ AtLimit ∷ NotForThisCard ∷ NoOffer ∷ NoMessageClosed
+    None ∷ NoSuchIdentifier ∷ Access ∷ WrongDecimals ∷ MinusZero ∷ OutOfRange ∷ AtLimit ∷ NotForThisCard ∷ NoOffer ∷ NoMessageClosed
     ∷ NotWellFormed 1 ∷ NotWellFormed 2 ∷ NotWellFormed 3 ∷ NotWellFormed 4 ∷ NotWellFormed 5 ∷ NotWellFormed 6 ∷ NotWellFormed 7 ∷ NotWellFormed 8 ∷ NotWellFormed 9
     ∷ []
 
@@ -79,25 +79,30 @@ module _ (bench maker : List ℤ) (c : Card) (values : List ℤ) (w : ℕ) (out 
     pub position-ends : (p : ℕ) → s .cause ≡ whyOf (NotWellFormed p) → (1 ≤ p) × (p ≤ 9)
     -- the closed message is well formed exactly when there is no such position
     pub well-formed : WellFormed (asSent c) ↔ ((p : ℕ) → Impossible (asSent c) p → ⊥)
-    -- the reply is `A` or `I` exactly when there is no cause, `N` exactly when it is one of the five, and silence exactly when it is one of the others
+    -- the reply is `A` or `I` exactly when there is no cause, `N` exactly when it is one of the six, and silence exactly when it is one of the others
     pub accepted : ((a : Answer) × (readCall (take (s .bytes) (stepCall c bench maker values w out .buffer)) ≡ gave a) × (a .mark ≡ Declined → ⊥)) ↔ (s .cause ≡ whyOf None)
     pub declined : ((a : Answer) × (readCall (take (s .bytes) (stepCall c bench maker values w out .buffer)) ≡ gave a) × (a .mark ≡ Declined)) ↔ (isOneOf (s .cause .code) causesOfN ≡ true)
     pub silent : (s .bytes ≡ 0) ↔ (isOneOf (s .cause .code) silences ≡ true)
 
 -- ---- each cause is given by some sound card: those of the bench
 
--- words sent to a card that names these identifiers for its scan, and the cause of the last
+-- words sent to a card of this revision that names these identifiers for its scan, and the cause of the last
 pub record CauseCase : Type 0 where
+  pub revision : ℕ
   pub names : String
   pub sent : String
   pub cause : Cause
 
+-- from the first revision, and from the second
 unfoldable pub draws : String → String → Cause → CauseCase
-draws names sent x = record { names = names; sent = sent; cause = x }
+draws names sent x = record { revision = 1; names = names; sent = sent; cause = x }
 
--- every cause, and every position; the last four have several causes, and give the first
+unfoldable pub second : String → String → Cause → CauseCase
+second names sent x = record { revision = 2; names = names; sent = sent; cause = x }
+
+-- every cause, and every position; then messages with several causes, which give the first; then both zeros
 unfoldable pub causeCases : List CauseCase
-unfolding draws
+unfolding draws second
 causeCases =
     draws "" "L7M?*" None
     ∷ draws "" "L7x?*" NoSuchIdentifier
@@ -126,6 +131,18 @@ causeCases =
     ∷ draws "" "L7M#20005*" Access
     ∷ draws "" "L7Z-*" Access
     ∷ draws "" "L7m#10030*" WrongDecimals
+    ∷ draws "" "L7J#00006*" None
+    ∷ draws "" "L7Z#00005*" OutOfRange
+    ∷ second "" "L7J#00006*" MinusZero
+    ∷ second "" "L7J#00001*" None
+    ∷ second "" "L7Z#00005*" MinusZero
+    ∷ second "" "L7Z#00000*" OutOfRange
+    ∷ second "" "L7J#00005*" WrongDecimals
+    ∷ second "" "L7M#00006*" Access
+    ∷ second "" "L7x#00006*" NoSuchIdentifier
+    ∷ second "" "L8J#00006*" NotForThisCard
+    ∷ second "MJmM" "L7]#00005*" Access
+    ∷ second "" "L7]#00005*" NoSuchIdentifier
     ∷ []
 
 -- one of the cases has it
@@ -141,7 +158,7 @@ unfoldable pub drawsIt : CauseCase → Bool
 drawsIt x =
     let ws : List ℕ = travelling (chars (x .sent)) in
     let n : ℕ = length ws - 1 in
-    let r : After Took = runCall (scanCard (x .names)) [] benchRows (benchValues (pos 20)) (take n ws) (replicate 99 0) in
+    let r : After Took = runCall (cardWith (x .revision) (x .names)) [] benchRows (benchValues (pos 20)) (take n ws) (replicate 99 0) in
     gaveCause (stepCall (r .card) [] benchRows (r .values) (getD ws n 0) (replicate longestReply 0) .outcome) (whyOf (x .cause))
 
 -- ---- all of them

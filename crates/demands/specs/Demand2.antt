@@ -13,6 +13,7 @@ use lib.ListN.{length, getD, take, drop}
 use Rattle.refusal.specs.Refusal.{Outcome, refused, gave}
 use Rattle.wire.specs.Word.{validWords}
 use Rattle.number.specs.declared.Decimal.{Decimal}
+use Rattle.number.specs.declared.Numeral.{Numeral}
 use Rattle.number.specs.Number.{isMultiple}
 use Rattle.message.specs.declared.Body.the-variants.{Set}
 use Rattle.message.specs.declared.Message.{Message}
@@ -92,7 +93,7 @@ pub record LeftBy (bench maker : List ℤ) (o : Offer) : Type 0 where
   pub word : ℕ
   pub out : List ℕ
   pub message : Message
-  pub number : Decimal
+  pub number : Numeral
   pub bytes : ℕ
   pub sound : Sound bench maker card values
   -- as in Drawn
@@ -118,8 +119,8 @@ pub record NotAbove (n z : ℤ) (r : Row) : Type 0 where
 
 -- for a message for this card; one for another leaves the offer that was there, whatever its number
 pub record NeverUp : Type 0 where
-  pub never-up : (bench maker : List ℤ) (c : Card) (values : List ℤ) (w : ℕ) (out : List ℕ) (k : ℕ) (m : Message) (x : Decimal) (z : ℤ) (r : Row) → bytesOf (its bench maker c values w out .outcome) ≡ gave k
-      → hear (c .pending) w .message ≡ Heard m → isFor (c .setup) m ≡ true → m .body ≡ Set x → entryIn bench maker (m .identifier) ≡ Found r → its bench maker c values w out .card .offer ≡ Held (m .identifier) z → NotAbove (x .number) z r
+  pub never-up : (bench maker : List ℤ) (c : Card) (values : List ℤ) (w : ℕ) (out : List ℕ) (k : ℕ) (m : Message) (x : Numeral) (z : ℤ) (r : Row) → bytesOf (its bench maker c values w out .outcome) ≡ gave k
+      → hear (c .pending) w .message ≡ Heard m → isFor (c .setup) m ≡ true → m .body ≡ Set x → entryIn bench maker (m .identifier) ≡ Found r → its bench maker c values w out .card .offer ≡ Held (m .identifier) z → NotAbove (x .value .number) z r
 
 -- ---- words
 

@@ -5,4 +5,5 @@ pub mod Demand2
 pub mod Demand3
 pub mod Neighbours
 pub mod Causes
+pub mod Zeros
 pub mod Demands

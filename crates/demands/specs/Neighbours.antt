@@ -8,7 +8,7 @@ use lib.IntN.{ℤ}
 use lib.ListN.{length}
 use Rattle.refusal.specs.Refusal.{gave}
 use Rattle.wire.specs.Word.{validWords}
-use Rattle.number.specs.declared.Decimal.{Decimal}
+use Rattle.number.specs.declared.Numeral.{Numeral}
 use Rattle.message.specs.declared.Body.the-variants.{Set}
 use Rattle.message.specs.declared.Message.{Message}
 use Rattle.message.specs.declared.Parsed.the-variants.{Heard}
@@ -39,7 +39,7 @@ pub record NeighboursIgnored : Type 0 where
       → stepCall c bench maker values w out ≡ record { card = record { setup = c .setup; pending = none; offer = c .offer }; outcome = gave (record { bytes = 0; cause = whyOf NotForThisCard }); values = values; buffer = out }
   -- "A message for this card still cancels as before.": what is on offer behind one is its own, of a Type 3 for that identifier
   pub still-cancels : (bench maker : List ℤ) (c : Card) (values : List ℤ) (w : ℕ) (out : List ℕ) (k : ℕ) (m : Message) (i : ℕ) (z : ℤ) → bytesOf (stepCall c bench maker values w out .outcome) ≡ gave k
-      → hear (c .pending) w .message ≡ Heard m → isFor (c .setup) m ≡ true → stepCall c bench maker values w out .card .offer ≡ Held i z → (x : Decimal) × (m .body ≡ Set x) × (m .identifier ≡ i)
+      → hear (c .pending) w .message ≡ Heard m → isFor (c .setup) m ≡ true → stepCall c bench maker values w out .card .offer ≡ Held i z → (x : Numeral) × (m .body ≡ Set x) × (m .identifier ≡ i)
   -- recordings with the same messages for this card, whatever else is heard in them, draw the same replies and leave the same values and offer
   pub ours-decide : (bench maker : List ℤ) (c : Card) (values : List ℤ) (ws xs out out′ : List ℕ) → Sound bench maker c values → validWords ws ≡ true → validWords xs ≡ true → oursIn c ws ≡ oursIn c xs
       → length (replies bench maker c values ws) ≤ length out → length (replies bench maker c values xs) ≤ length out′ → PlayedAlike bench maker c values ws xs out out′

@@ -4,11 +4,11 @@ use mathlib.Core.List.{List, [], _∷_, _++_}
 use Prim.Native.Nat.{ℕ}
 use Prim.Native.Char.{code}
 use lib.Dec.{lit≤, lit<}
-use lib.IntN.{negsuc}
+use lib.IntN.{pos, negsuc}
 use Rattle.wire.specs.Text.{chars}
 use Rattle.wire.specs.Bytes.{wordOf}
 use Rattle.wire.specs.Word.{travelling}
-use Rattle.number.specs.Data.{digit, codeOf, fiveDigits, spellData, withDecimals}
+use Rattle.number.specs.Data.{digit, codeOf, fiveDigits, spellData, spellNumeral, withDecimals, numeral, minusZero}
 use Rattle.message.specs.declared.Body.the-variants.{Status, Query, Up, Down, Set, Store}
 use Rattle.message.specs.Prefix.{message}
 use Rattle.message.specs.Spell.{spellAddress, kindOf}
@@ -26,7 +26,7 @@ use Rattle.listing.proofs.Spoken.{progressAt, character-unheard, spoken
 -- document 01: "For `xL07M?*L7m#00231*` the whole output is"
 pub paper-example : listing (wordBytes (travelling (chars "xL07M?*L7m#00231*")))
     ≡ chars "AT CARD ID KIND DATA\n6 L7 M ? -\n16 L7 m # 00231\nEND 2\n"
-unfolding travelling plainTest wordBytes digit codeOf fiveDigits spellData spellAddress kindOf decimalIn decimal kindAndData line nextPosition start lineFor countAfter lastLine listingFrom listing
+unfolding travelling plainTest wordBytes digit codeOf fiveDigits spellData spellNumeral spellAddress kindOf decimalIn decimal kindAndData line nextPosition start lineFor countAfter lastLine listingFrom listing
 paper-example =
     ap (λ (t : List ℕ). heading ++ t)
     (character-unheard none 0 0 (lit< tt) (code "x") (travelling (chars "L07M?*L7m#00231*")) none (hear-dropped (code "x") (lit< tt) x-no-letter)
@@ -34,16 +34,18 @@ paper-example =
     ∙ ap (λ (t : List ℕ). chars "6 L7 M ? -\n" ++ t)
     (spoken (code "L") (chars "7m#00231") 7 1 [] _ letter-is (plain-by (chars "7m#00231") refl) (lit≤ tt) (lit< tt) set-parsed))
 
--- a line for each kind of body, with an address of one digit and of two
+-- a line for each kind of body, with an address of one digit and of two; both zeros
 pub lines : line 4 (message (code "L") 7 (code "?") Status)
     ∷ line 6 (message (code "L") 7 (code "M") Query)
     ∷ line 10 (message (code "R") 10 (code "L") Up)
     ∷ line 16 (message (code "R") 99 (code "M") Down)
     ∷ line 0 (message (code "L") 7 (code "m") Store)
-    ∷ line 31 (message (code "L") 1 (code "J") (Set (withDecimals (negsuc 12) 1)))
+    ∷ line 31 (message (code "L") 1 (code "J") (Set (numeral (withDecimals (negsuc 12) 1))))
+    ∷ line 42 (message (code "L") 1 (code "J") (Set (numeral (withDecimals (pos 0) 1))))
+    ∷ line 53 (message (code "L") 1 (code "J") (Set (minusZero 1)))
     ∷ []
-    ≡ chars "4 L7 ? ? -\n" ∷ chars "6 L7 M ? -\n" ∷ chars "10 R10 L + -\n" ∷ chars "16 R99 M - -\n" ∷ chars "0 L7 m I -\n" ∷ chars "31 L1 J # 00136\n" ∷ []
-unfolding digit codeOf fiveDigits spellData spellAddress kindOf decimalIn decimal kindAndData line
+    ≡ chars "4 L7 ? ? -\n" ∷ chars "6 L7 M ? -\n" ∷ chars "10 R10 L + -\n" ∷ chars "16 R99 M - -\n" ∷ chars "0 L7 m I -\n" ∷ chars "31 L1 J # 00136\n" ∷ chars "42 L1 J # 00001\n" ∷ chars "53 L1 J # 00006\n" ∷ []
+unfolding digit codeOf fiveDigits spellData spellNumeral spellAddress kindOf decimalIn decimal kindAndData line
 lines = refl
 
 -- with no message open no word has a line

@@ -8,7 +8,7 @@ use Rattle.refusal.specs.Check.{refuseIf}
 use Rattle.refusal.specs.Call.{Call, writes}
 use Rattle.refusal.specs.declared.Refusal.the-variants.{NotMessage}
 use Rattle.wire.specs.Text.{chars}
-use Rattle.number.specs.Data.{digit, spellData}
+use Rattle.number.specs.Data.{digit, spellNumeral}
 use Rattle.message.specs.declared.Kind.{Kind}
 use Rattle.message.specs.declared.Kind.the-variants.{Sign, Data}
 use Rattle.message.specs.declared.Message.{Message}
@@ -27,7 +27,7 @@ decimal n = decimalIn n n
 -- document 01: "body sign, data or `-`, spelled as in the normal form"
 unfoldable pub kindAndData : Kind → List ℕ
 kindAndData (Sign c) = c ∷ chars " -"
-kindAndData (Data x) = chars "# " ++ spellData x
+kindAndData (Data x) = chars "# " ++ spellNumeral x
 
 -- document 01: "position of its `*` counted from 0, letter and address, identifier, body sign, data or `-`"; "Every line ends with
 -- one line feed."

@@ -131,7 +131,7 @@ fn put_body(text: &mut [u8], from: usize, body: Body) -> usize
             put(text, dash, c)
         }
         Kind::Data(x) => {
-            let digits = number::write_data(x);
+            let digits = number::write_numeral(x);
             let data = put_all(text, from, &digits);
             put_all(text, data, b"# ")
         }

@@ -12,7 +12,7 @@ use lib.IntN.{pos}
 use Rattle.refusal.specs.Lists.{every}
 use Rattle.refusal.proofs.Logic.{and-left, and-right, not-is}
 use Rattle.wire.specs.Text.{chars}
-use Rattle.number.specs.Data.{digit, isDigit, digitOf, decode, readNext, withDecimals}
+use Rattle.number.specs.Data.{digit, isDigit, digitOf, decode, readNext, withDecimals, numeral, minusZero}
 use Rattle.message.specs.declared.Body.the-variants.{Query, Set}
 use Rattle.message.specs.declared.Parsed.the-variants.{Heard}
 use Rattle.message.specs.Message.{star, isLetter, isAddress, isIdentifier}
@@ -56,9 +56,14 @@ pub query-parsed : parse (chars "L07M?") ≡ Heard (message (code "L") 7 (code "
 unfolding isDigit digitOf isLetter isAddress isIdentifier extendIdentifier extendAddress extendBody extend extendAll finish parse
 query-parsed = refl
 
-pub set-parsed : parse (chars "L7m#00231") ≡ Heard (message (code "L") 7 (code "m") (Set (withDecimals (pos 23) 1)))
+pub set-parsed : parse (chars "L7m#00231") ≡ Heard (message (code "L") 7 (code "m") (Set (numeral (withDecimals (pos 23) 1))))
 unfolding isDigit digitOf decode readNext isLetter isAddress isIdentifier extendIdentifier extendAddress extendData extendBody extend extendAll finish parse
 set-parsed = refl
+
+-- minus zero is not heard as zero
+pub minus-zero-parsed : parse (chars "L7J#00006") ≡ Heard (message (code "L") 7 (code "J") (Set (minusZero 1)))
+unfolding isDigit digitOf decode readNext isLetter isAddress isIdentifier extendIdentifier extendAddress extendData extendBody extend extendAll finish parse
+minus-zero-parsed = refl
 
 -- ---- where a message fails
 

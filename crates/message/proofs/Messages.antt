@@ -1,6 +1,6 @@
 -- What the parts of a message are: laws of the tests, for whoever has a message or makes one. Assumes nothing.
-use mathlib.Core.Path.{_≡_, refl}
-use mathlib.Core.Bool.{true, false}
+use mathlib.Core.Path.{_≡_, refl, sym, ap, _∙_}
+use mathlib.Core.Bool.{true, false, false≢true}
 use mathlib.Core.List.{List, [], _∷_, _++_}
 use Prim.Native.Nat.{ℕ, _<_, _≤_}
 use Prim.Native.Char.{code}
@@ -8,12 +8,13 @@ use native.Mathlib.Omega.{arith}
 use borrow.Author.Tests.{leb-true, le-leb, lt-leb, eqb-true, ne-eqb}
 use lib.Dec.{eqb}
 use Rattle.refusal.proofs.Logic.{ands, and-both, not-is, is-not, or-cases}
-use Rattle.number.specs.Data.{isDigit, fits}
+use Rattle.number.specs.Data.{isDigit, fitsNumeral}
 use Rattle.number.proofs.Digits.{digit-ends}
+use Rattle.number.proofs.Reading.{fits-value, numeral-fits}
 use Rattle.message.specs.declared.Body.{Body}
 use Rattle.message.specs.declared.Body.the-variants.{Status, Query, Up, Down, Set, Store}
 use Rattle.message.specs.declared.Message.{Message}
-use Rattle.message.specs.Message.{star, question, isLetter, isAddress, isIdentifier, fitsBody, isMessage}
+use Rattle.message.specs.Message.{star, question, isLetter, isAddress, isIdentifier, fitsBody, asksMinusZero, unsignedBody, unsignedZero, isMessage}
 
 -- a message as heard, by its parts
 pub record Parts (m : Message) : Type 0 where
@@ -36,7 +37,7 @@ BodyParts i Status = eqb i question ≡ true
 BodyParts i Query = eqb i question ≡ false
 BodyParts i Up = eqb i question ≡ false
 BodyParts i Down = eqb i question ≡ false
-BodyParts i (Set x) = (eqb i question ≡ false) × (fits x ≡ true)
+BodyParts i (Set x) = (eqb i question ≡ false) × (fitsNumeral x ≡ true)
 BodyParts i Store = eqb i question ≡ false
 
 pub body-parts : (i : ℕ) (b : Body) → fitsBody i b ≡ true → BodyParts i b
@@ -56,6 +57,38 @@ parts-body i Up p = is-not p
 parts-body i Down p = is-not p
 parts-body i (Set x) p = and-both (is-not (p .0)) (p .1)
 parts-body i Store p = is-not p
+
+-- with zero in place of minus zero it is a message too, and another one
+unsigned-fits : (i : ℕ) (b : Body) → BodyParts i b → BodyParts i (unsignedBody b)
+unfolding unsignedBody
+unsigned-fits i Status p = p
+unsigned-fits i Query p = p
+unsigned-fits i Up p = p
+unsigned-fits i Down p = p
+unsigned-fits i (Set x) p = (p .0, numeral-fits (x .value) (fits-value x (p .1)))
+unsigned-fits i Store p = p
+
+pub unsigned-message : (m : Message) → isMessage m ≡ true → isMessage (unsignedZero m) ≡ true
+unsigned-message m e =
+    let p = parts m e in
+    whole (unsignedZero m) (record {
+      is-letter = p .is-letter;
+      is-address = p .is-address;
+      is-identifier = p .is-identifier;
+      fits-body = parts-body (m .identifier) (unsignedBody (m .body)) (unsigned-fits (m .identifier) (m .body) (body-parts (m .identifier) (m .body) (p .fits-body)));
+    })
+
+asks-none : (b : Body) → asksMinusZero (unsignedBody b) ≡ false
+unfolding asksMinusZero unsignedBody
+asks-none Status = refl
+asks-none Query = refl
+asks-none Up = refl
+asks-none Down = refl
+asks-none (Set x) = refl
+asks-none Store = refl
+
+pub unsigned-other : (m : Message) → asksMinusZero (m .body) ≡ true → m ≡ unsignedZero m → ⊥
+unsigned-other m z e = false≢true (sym (asks-none (m .body)) ∙ sym (ap (λ (x : Message). asksMinusZero (x .body)) e) ∙ z)
 
 pub letter-is : isLetter (code "L") ≡ true
 unfolding isLetter

@@ -15,7 +15,7 @@ use Rattle.refusal.proofs.Logic.{ands, not-is, is-not, by-test, choice}
 use Rattle.number.specs.declared.Data.{Data}
 use Rattle.number.specs.declared.Data.the-variants.{Partial, Number, Invalid}
 use Rattle.number.specs.Data.{isDigit, digitOf, start, readData}
-use Rattle.number.specs.declared.Decimal.{Decimal}
+use Rattle.number.specs.declared.Numeral.{Numeral}
 use Rattle.number.proofs.Reading.{read-length}
 use Rattle.message.specs.declared.Message.{Message}
 use Rattle.message.specs.declared.Parsed.{Parsed}
@@ -154,7 +154,7 @@ unfolding readData
 behind-hash l a i cs e = ap (λ (s : Prefix). leads s cs) (extend-hash l a i (is-not e)) ∙ ap finish (all-data l a i start cs)
 
 -- data that is no number is unheard
-pub no-number : (l a i : ℕ) (x : Data) → ((y : Decimal) → x ≡ Number y → ⊥) → finish (extendData l a i x) ≡ Unheard
+pub no-number : (l a i : ℕ) (x : Data) → ((y : Numeral) → x ≡ Number y → ⊥) → finish (extendData l a i x) ≡ Unheard
 unfolding extendData finish
 no-number l a i (Partial k n) f = refl
 no-number l a i (Number y) f = absurd (f y refl)

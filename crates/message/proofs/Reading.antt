@@ -12,7 +12,7 @@ use lib.Dec.{leb, eqb}
 use Rattle.refusal.proofs.Logic.{ands, and-both, not-is, is-not, choice}
 use Rattle.number.specs.declared.Data.{Data}
 use Rattle.number.specs.declared.Data.the-variants.{Partial, Number, Invalid}
-use Rattle.number.specs.Data.{digit, isDigit, digitOf, spellData, start, readNext, readFrom, readData}
+use Rattle.number.specs.Data.{digit, isDigit, digitOf, spellNumeral, start, readNext, readFrom, readData}
 use Rattle.number.proofs.Digits.{digit-is, digit-back, digit-below}
 use Rattle.number.proofs.Reading.{read-written, read-more, read-fits, next-number, next-invalid}
 use Rattle.message.specs.declared.Body.{Body}
@@ -94,8 +94,8 @@ all-body l a i Query e = rw (is-other i e)
 all-body l a i Up e = rw (is-other i e)
 all-body l a i Down e = rw (is-other i e)
 all-body l a i (Set x) e =
-    ap (λ (s : Prefix). extendAll s (spellData x)) (extend-hash l a i (search ands))
-    ∙ all-data l a i start (spellData x)
+    ap (λ (s : Prefix). extendAll s (spellNumeral x)) (extend-hash l a i (search ands))
+    ∙ all-data l a i start (spellNumeral x)
     ∙ ap (extendData l a i) (read-written x (search ands))
 all-body l a i Store e = rw (is-other i e)
 

@@ -13,9 +13,9 @@ use lib.ListN.{length, length-append}
 use Rattle.refusal.proofs.Logic.{choice}
 use Rattle.number.specs.declared.Data.{Data}
 use Rattle.number.specs.declared.Data.the-variants.{Partial, Number, Invalid}
-use Rattle.number.specs.Data.{isDigit, digitOf, withDecimals, decode, readNext}
-use Rattle.number.specs.declared.Decimal.{Decimal}
-use Rattle.number.proofs.Digits.{digit-below, data-length}
+use Rattle.number.specs.Data.{isDigit, digitOf, withDecimals, numeral, negative, decode, readNext}
+use Rattle.number.specs.declared.Numeral.{Numeral}
+use Rattle.number.proofs.Digits.{digit-below, numeral-length}
 use Rattle.message.specs.declared.Body.{Body}
 use Rattle.message.specs.declared.Body.the-variants.{Status, Query, Up, Down, Set, Store}
 use Rattle.message.specs.declared.Message.{Message}
@@ -48,9 +48,9 @@ open-is : (l a i : ℕ) (b : Body) → length (spellOpen (message l a i b)) ≡ 
 unfolding spellOpen
 open-is l a i b = omega (arith, length-append (spellAddress a) (i ∷ spellBody b))
 
-set-is : (x : Decimal) → length (spellBody (Set x)) ≡ 6
+set-is : (x : Numeral) → length (spellBody (Set x)) ≡ 6
 unfolding kindOf spellKind
-set-is x = omega (arith, data-length x)
+set-is x = omega (arith, numeral-length x)
 
 at-identifier : (l a c n : ℕ) → length (spellAddress a) + 2 ≤ n → AtLeast (extendIdentifier l a c) n
 unfolding extendIdentifier
@@ -76,10 +76,10 @@ module _ (l a i n : ℕ) (h : length (spellAddress a) + 3 ≤ n) where
 at-code : (l a i v k n : ℕ) → length (spellAddress a) + 8 ≤ n → AtLeast (extendData l a i (decode v k)) n
 unfolding extendData decode
 at-code l a i v k n h =
-    choice (λ (x : Data). AtLeast (extendData l a i x) n) (leb k 3) (λ t. all (withDecimals (pos v) k))
-    (λ t. choice (λ (x : Data). AtLeast (extendData l a i x) n) (leb 5 k && leb k 8) (λ t. all (withDecimals (negℤ (pos v)) _)) (λ t. tt))
+    choice (λ (x : Data). AtLeast (extendData l a i x) n) (leb k 3) (λ t. all (numeral (withDecimals (pos v) k)))
+    (λ t. choice (λ (x : Data). AtLeast (extendData l a i x) n) (leb 5 k && leb k 8) (λ t. all (negative v _)) (λ t. tt))
   where
-    all : (x : Decimal) → length (spellOpen (message l a i (Set x))) ≤ n
+    all : (x : Numeral) → length (spellOpen (message l a i (Set x))) ≤ n
     all x = omega (arith, h, open-is l a i (Set x), set-is x)
 
 at-data : (l a i : ℕ) (x : Data) (c n : ℕ) → AtLeast (Digits l a i x) n → AtLeast (extendData l a i (readNext x c)) (suc n)

@@ -20,9 +20,9 @@ use Rattle.wire.specs.declared.Line.{Line}
 use Rattle.wire.specs.Word.{withParity, travelling}
 use Rattle.wire.specs.Inner.{longestMessage, empty, put, puts, lineOf}
 use Rattle.wire.proofs.Lines.{puts-append, puts-empty}
-use Rattle.number.specs.declared.Decimal.{Decimal}
-use Rattle.number.specs.Data.{digit, spellData}
-use Rattle.number.proofs.Digits.{digit-is, AllDigits, data-length, data-digits}
+use Rattle.number.specs.declared.Numeral.{Numeral}
+use Rattle.number.specs.Data.{digit, spellNumeral}
+use Rattle.number.proofs.Digits.{digit-is, AllDigits, numeral-length, numeral-digits}
 use Rattle.message.specs.declared.Body.{Body}
 use Rattle.message.specs.declared.Body.the-variants.{Status, Query, Up, Down, Set, Store}
 use Rattle.message.specs.declared.Kind.{Kind}
@@ -52,7 +52,7 @@ plain-body Status = (record { small = lit< tt; no-star = refl }, tt)
 plain-body Query = (record { small = lit< tt; no-star = refl }, tt)
 plain-body Up = (record { small = lit< tt; no-star = refl }, tt)
 plain-body Down = (record { small = lit< tt; no-star = refl }, tt)
-plain-body (Set x) = (record { small = lit< tt; no-star = refl }, plain-digits (spellData x) (data-digits x))
+plain-body (Set x) = (record { small = lit< tt; no-star = refl }, plain-digits (spellNumeral x) (numeral-digits x))
 plain-body Store = (record { small = lit< tt; no-star = refl }, tt)
 
 -- behind the letter
@@ -96,18 +96,18 @@ pub sign-spelled : (c : ℕ) → spellKind (Sign c) ≡ c ∷ []
 unfolding spellKind
 sign-spelled c = refl
 
-pub data-spelled : (x : Decimal) → spellKind (Data x) ≡ code "#" ∷ spellData x
+pub data-spelled : (x : Numeral) → spellKind (Data x) ≡ code "#" ∷ spellNumeral x
 unfolding spellKind
 data-spelled x = refl
 
-pub data-kind-length : (x : Decimal) → length (spellKind (Data x)) ≡ 6
+pub data-kind-length : (x : Numeral) → length (spellKind (Data x)) ≡ 6
 unfolding spellKind
-data-kind-length x = omega (arith, data-length x)
+data-kind-length x = omega (arith, numeral-length x)
 
 kind-length : (k : Kind) → length (spellKind k) ≤ 6
 unfolding spellKind
 kind-length (Sign c) = lit≤ tt
-kind-length (Data x) = omega (arith, data-length x)
+kind-length (Data x) = omega (arith, numeral-length x)
 
 pub body-length : (b : Body) → length (spellBody b) ≤ 6
 body-length b = kind-length (kindOf b)

@@ -1,9 +1,11 @@
 -- What is a message as heard: its letter, address, identifier and body.
-use mathlib.Core.Bool.{Bool, not, _&&_, _||_}
+use mathlib.Core.Bool.{Bool, false, not, _&&_, _||_}
 use Prim.Native.Nat.{ℕ}
 use Prim.Native.Char.{code}
+use mathlib.Core.List.{List}
 use lib.Dec.{leb, eqb}
-use Rattle.number.specs.Data.{isDigit, fits}
+use Rattle.refusal.specs.Lists.{every}
+use Rattle.number.specs.Data.{isDigit, isMinusZero, numeral, fitsNumeral}
 use Rattle.message.specs.declared.Body.{Body}
 use Rattle.message.specs.declared.Body.the-variants.{Status, Query, Up, Down, Set, Store}
 use Rattle.message.specs.declared.Message.{Message}
@@ -31,8 +33,33 @@ fitsBody i Status = eqb i question
 fitsBody i Query = not (eqb i question)
 fitsBody i Up = not (eqb i question)
 fitsBody i Down = not (eqb i question)
-fitsBody i (Set x) = not (eqb i question) && fits x
+fitsBody i (Set x) = not (eqb i question) && fitsNumeral x
 fitsBody i Store = not (eqb i question)
+
+-- a Type 3 of minus zero
+unfoldable pub asksMinusZero : Body → Bool
+asksMinusZero Status = false
+asksMinusZero Query = false
+asksMinusZero Up = false
+asksMinusZero Down = false
+asksMinusZero (Set x) = isMinusZero x
+asksMinusZero Store = false
+
+-- the same message, with zero where it has minus zero; claims cite this and the next two, and no call
+unfoldable pub unsignedBody : Body → Body
+unsignedBody Status = Status
+unsignedBody Query = Query
+unsignedBody Up = Up
+unsignedBody Down = Down
+unsignedBody (Set x) = Set (numeral (x .value))
+unsignedBody Store = Store
+
+abbrev pub unsignedZero : Message → Message
+unsignedZero m = record { letter = m .letter; address = m .address; identifier = m .identifier; body = unsignedBody (m .body) }
+
+-- none of them is a Type 3 of minus zero
+unfoldable pub noMinusZero : List Message → Bool
+noMinusZero ms = every (λ (m : Message). not (asksMinusZero (m .body))) ms
 
 -- a message as heard; number 7 is given for anything else
 unfoldable pub isMessage : Message → Bool

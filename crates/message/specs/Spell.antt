@@ -8,7 +8,7 @@ use Rattle.refusal.specs.Check.{refuseIf}
 use Rattle.refusal.specs.Call.{Call, writes}
 use Rattle.refusal.specs.declared.Refusal.the-variants.{NotMessage}
 use Rattle.wire.specs.Word.{travelling}
-use Rattle.number.specs.Data.{digit, spellData}
+use Rattle.number.specs.Data.{digit, spellNumeral}
 use Rattle.message.specs.declared.Body.{Body}
 use Rattle.message.specs.declared.Body.the-variants.{Status, Query, Up, Down, Set, Store}
 use Rattle.message.specs.declared.Kind.{Kind}
@@ -31,7 +31,7 @@ kindOf Store = Sign (code "I")
 
 unfoldable pub spellKind : Kind → List ℕ
 spellKind (Sign c) = c ∷ []
-spellKind (Data x) = code "#" ∷ spellData x
+spellKind (Data x) = code "#" ∷ spellNumeral x
 
 abbrev pub spellBody : Body → List ℕ
 spellBody b = spellKind (kindOf b)

@@ -7,11 +7,11 @@ ghost use Rattle.refusal.specs.Call.{callOf};
 ghost use Rattle.wire.specs.Word.{travelling};
 ghost use Rattle.wire.specs.Inner.{puts, lineOf};
 ghost use Rattle.message.specs.Message.{star, isLetter, isAddress, isIdentifier, fitsBody, isMessage};
-ghost use Rattle.number.specs.Data.{spellData, readData};
+ghost use Rattle.number.specs.Data.{spellNumeral, readData};
 ghost use Rattle.message.specs.Prefix.{message, extend, extendBody, extendData, extendAll, finish, parse};
 ghost use Rattle.message.specs.Spell.{spellAddress, kindOf, spellBody, spell, writeCall};
 use number::Data;
-use number::Decimal;
+use number::Numeral;
 use refusal::Refusal;
 use refusal::Written;
 use wire::Line;
@@ -24,7 +24,7 @@ pub enum Body {
     Query,
     Up,
     Down,
-    Set(Decimal),
+    Set(Numeral),
     Store,
 }
 
@@ -73,7 +73,7 @@ pub enum Prefix {
 // What stands behind an identifier: one character, or `#` and a number.
 pub enum Kind {
     Sign(u8),
-    Data(Decimal),
+    Data(Numeral),
 }
 
 pub fn is_letter(c: u8) -> bool
@@ -107,7 +107,7 @@ fn fits_body(identifier: u8, body: Body) -> bool
         Body::Query => identifier != b'?',
         Body::Up => identifier != b'?',
         Body::Down => identifier != b'?',
-        Body::Set(x) => (identifier != b'?') & number::fits(x),
+        Body::Set(x) => (identifier != b'?') & number::fits_numeral(x),
         Body::Store => identifier != b'?',
     }
 }
@@ -262,10 +262,10 @@ pub fn put_address(line: Line, address: u8) -> Line
 }
 
 // Five digits of data. Where the line has room for all of them, they are set at once.
-pub fn put_data(line: Line, x: Decimal) -> Line
-    ensures { λ r. ⌜ r ≡ puts line (spellData x) ⌝ }
+pub fn put_data(line: Line, x: Numeral) -> Line
+    ensures { λ r. ⌜ r ≡ puts line (spellNumeral x) ⌝ }
 {
-    let digits = number::write_data(x);
+    let digits = number::write_numeral(x);
     let len = line.len;
     if 6 < len {
         return line.put_all(&digits);

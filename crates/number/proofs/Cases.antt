@@ -6,7 +6,7 @@ use mathlib.Core.List.{[], _∷_}
 use lib.IntN.{pos, negsuc}
 use Rattle.number.specs.declared.Data.the-variants.{Partial, Number, Invalid}
 use Rattle.number.specs.Number.{inRange, isMultiple, cutDown, cut}
-use Rattle.number.specs.Data.{digit, isDigit, digitOf, fits, codeOf, fiveDigits, spellData, decode, readNext, readFrom, withDecimals, readData}
+use Rattle.number.specs.Data.{digit, isDigit, digitOf, fits, codeOf, fiveDigits, spellData, decode, readNext, readFrom, withDecimals, withZero, numeral, minusZero, fitsNumeral, spellNumeral, readData}
 
 -- case e: 2.3 is cut to 2.0 and not rounded to 2.5, and is written 00201
 pub case-e : cut (pos 23) (pos 5) ≡ pos 20
@@ -18,7 +18,7 @@ unfolding spellData fiveDigits codeOf digit
 case-e-written = refl
 
 -- case f: 00126 is -1.2, which is cut to -1.5 and not toward zero, and written 00156
-pub case-f-read : readData (48 ∷ 48 ∷ 49 ∷ 50 ∷ 54 ∷ []) ≡ Number (withDecimals (negsuc 11) 1)
+pub case-f-read : readData (48 ∷ 48 ∷ 49 ∷ 50 ∷ 54 ∷ []) ≡ Number (numeral (withDecimals (negsuc 11) 1))
 unfolding readData readFrom readNext decode isDigit digitOf
 case-f-read = refl
 
@@ -31,7 +31,7 @@ unfolding spellData fiveDigits codeOf digit
 case-f-written = refl
 
 -- case h: 100.3 is out of range, though its cut is not; the greatest itself is in range
-pub case-h-read : readData (49 ∷ 48 ∷ 48 ∷ 51 ∷ 49 ∷ []) ≡ Number (withDecimals (pos 1003) 1)
+pub case-h-read : readData (49 ∷ 48 ∷ 48 ∷ 51 ∷ 49 ∷ []) ≡ Number (numeral (withDecimals (pos 1003) 1))
 unfolding readData readFrom readNext decode isDigit digitOf
 case-h-read = refl
 
@@ -43,14 +43,32 @@ pub case-h-cut : inRange (pos 0) (cut (pos 1003) (pos 5)) (pos 1000) ≡ true
 unfolding cut cutDown inRange
 case-h-cut = refl
 
--- case i: minus zero is read as zero, and zero is written 00001
-pub case-i-read : readData (48 ∷ 48 ∷ 48 ∷ 48 ∷ 54 ∷ []) ≡ Number (withDecimals (pos 0) 1)
+-- case i: minus zero is not read as zero, and is written as it was; zero is written 00001
+pub case-i-read : readData (48 ∷ 48 ∷ 48 ∷ 48 ∷ 54 ∷ []) ≡ Number (minusZero 1)
 unfolding readData readFrom readNext decode isDigit digitOf
 case-i-read = refl
 
-pub case-i-written : spellData (withDecimals (pos 0) 1) ≡ 48 ∷ 48 ∷ 48 ∷ 48 ∷ 49 ∷ []
-unfolding spellData fiveDigits codeOf digit
+pub case-i-zero : readData (48 ∷ 48 ∷ 48 ∷ 48 ∷ 49 ∷ []) ≡ Number (numeral (withDecimals (pos 0) 1))
+unfolding readData readFrom readNext decode isDigit digitOf
+case-i-zero = refl
+
+pub case-i-written : spellNumeral (minusZero 1) ≡ 48 ∷ 48 ∷ 48 ∷ 48 ∷ 54 ∷ []
+unfolding spellNumeral fiveDigits digit
 case-i-written = refl
+
+pub case-i-offered : spellData (withDecimals (pos 0) 1) ≡ 48 ∷ 48 ∷ 48 ∷ 48 ∷ 49 ∷ []
+unfolding spellData fiveDigits codeOf digit
+case-i-offered = refl
+
+-- the last code of minus zero
+pub three-decimals : readData (48 ∷ 48 ∷ 48 ∷ 48 ∷ 56 ∷ []) ≡ Number (minusZero 3)
+unfolding readData readFrom readNext decode isDigit digitOf
+three-decimals = refl
+
+-- only zero is minus zero
+pub not-zero : fitsNumeral (withZero (withDecimals (pos 5) 1) true) ≡ false
+unfolding fitsNumeral fits
+not-zero = refl
 
 -- case m: code 4 is not well formed, and neither is code 9
 pub case-m : readData (48 ∷ 48 ∷ 51 ∷ 48 ∷ 52 ∷ []) ≡ Invalid

@@ -10,9 +10,10 @@ use borrow.Author.Tests.{leb-true, le-leb}
 use lib.Dec.{leb}
 use lib.IntN.{ℤ, pos, negsuc}
 use lib.ListN.{length}
-use Rattle.refusal.proofs.Logic.{and-left, and-right, and-both}
+use Rattle.refusal.proofs.Logic.{and-left, and-right, and-both, choice}
 use Rattle.number.specs.declared.Decimal.{Decimal}
-use Rattle.number.specs.Data.{digit, isDigit, digitOf, codeOf, fiveDigits, spellData}
+use Rattle.number.specs.declared.Numeral.{Numeral}
+use Rattle.number.specs.Data.{digit, isDigit, digitOf, isMinusZero, codeOf, fiveDigits, spellData, spellNumeral}
 
 pub digit-ends : (c : ℕ) → isDigit c ≡ true → (48 ≤ c) × (c ≤ 57)
 unfolding isDigit
@@ -53,13 +54,26 @@ AllDigits (c ∷ cs) = (isDigit c ≡ true) × AllDigits cs
 last-digit : (n : ℕ) → isDigit (digit (n % 10)) ≡ true
 last-digit n = digit-is (n % 10) (omega arith)
 
+five-digits : (m k : ℕ) → AllDigits (fiveDigits m k)
+unfolding fiveDigits
+five-digits m k = (last-digit _, (last-digit _, (last-digit _, (last-digit _, (last-digit _, tt)))))
+
 pub data-digits : (x : Decimal) → AllDigits (spellData x)
-unfolding spellData fiveDigits
-data-digits x = (last-digit _, (last-digit _, (last-digit _, (last-digit _, (last-digit _, tt)))))
+unfolding spellData
+data-digits x = five-digits _ _
 
 pub data-length : (x : Decimal) → length (spellData x) ≡ 5
 unfolding spellData fiveDigits
 data-length x = refl
+
+-- and so of a number as a message has it
+pub numeral-digits : (x : Numeral) → AllDigits (spellNumeral x)
+unfolding spellNumeral
+numeral-digits x = choice AllDigits (isMinusZero x) (λ t. five-digits 0 (x .value .decimals + 5)) (λ t. data-digits (x .value))
+
+pub numeral-length : (x : Numeral) → length (spellNumeral x) ≡ 5
+unfolding spellNumeral fiveDigits
+numeral-length x = choice (λ (cs : List ℕ). length cs ≡ 5) (isMinusZero x) (λ t. refl) (λ t. data-length (x .value))
 
 -- only the last four digits of the number are written, and the last digit of the code
 pub four-written : (m k : ℕ) → fiveDigits (m % 10000) k ≡ fiveDigits m k

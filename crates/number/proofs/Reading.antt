@@ -1,22 +1,23 @@
 -- Data written and read, for every count of decimals at once. What is written is read as it was, since four last digits make
 -- the number again; what is read so far is always the last digits of its value (`Read`, kept by each character), so what
--- is read to the end fits, and is written as the same characters unless they were minus zero. Assumes nothing.
+-- is read to the end fits, and is written as the same characters. Assumes nothing.
 use mathlib.Core.Path.{_≡_, refl, sym, ap, ap₂, _∙_, subst}
-use mathlib.Core.Bool.{true, _&&_}
+use mathlib.Core.Bool.{Bool, true, false, not, _&&_, _||_}
 use mathlib.Core.List.{List, [], _∷_, _++_, append-assoc, append-nil}
 use Prim.Native.Nat.{ℕ, zero, suc, _+_, _-_, _*_, _/_, _%_, _^_, _≤_, _<_}
 use native.Mathlib.Nat.{pow-suc, pow-le-pow-right}
 use native.Mathlib.Numerals.{add-one}
 use native.Mathlib.Omega.{arith}
-use borrow.Author.Tests.{leb-true, le-leb, lt-leb, ltb-true, ltb-false, lt-ltb}
-use lib.Dec.{ltb, leb, lit≤}
+use borrow.Author.Tests.{leb-true, le-leb, lt-leb, ltb-true, ltb-false, lt-ltb, eqb-true, ne-eqb}
+use lib.Dec.{ltb, leb, eqb, lit≤}
 use lib.IntN.{ℤ, pos, negsuc, negℤ, natAbs}
-use lib.ListN.{length, getD}
-use Rattle.refusal.proofs.Logic.{and-left, and-right, and-both, choice}
+use lib.ListN.{length}
+use Rattle.refusal.proofs.Logic.{ands, and-left, and-right, and-both, choice, by-test}
 use Rattle.number.specs.declared.Data.{Data}
 use Rattle.number.specs.declared.Decimal.{Decimal}
+use Rattle.number.specs.declared.Numeral.{Numeral}
 use Rattle.number.specs.declared.Data.the-variants.{Partial, Number, Invalid}
-use Rattle.number.specs.Data.{digit, isDigit, digitOf, withDecimals, fits, codeOf, fiveDigits, spellData, decode, start, readNext, readFrom, readData}
+use Rattle.number.specs.Data.{digit, isDigit, digitOf, withDecimals, fits, withZero, isMinusZero, numeral, minusZero, fitsNumeral, codeOf, fiveDigits, spellData, spellNumeral, negative, decode, start, readNext, readFrom, readData}
 use Rattle.number.proofs.Signed.{natAbs-minus}
 use Rattle.number.proofs.Digits.{digit-is, digit-back, digit-below, digit-again, AllDigits}
 
@@ -33,6 +34,19 @@ pub within-fits : (x : Decimal) → natAbs (x .number) ≤ 9999 → x .decimals 
 unfolding fits
 within-fits x h k = and-both (le-leb (natAbs (x .number)) 9999 h) (le-leb (x .decimals) 3 k)
 
+-- a number that is no minus zero, and minus zero
+pub fits-value : (x : Numeral) → fitsNumeral x ≡ true → fits (x .value) ≡ true
+unfolding fitsNumeral
+fits-value x e = search ands
+
+pub numeral-fits : (x : Decimal) → fits x ≡ true → fitsNumeral (numeral x) ≡ true
+unfolding fitsNumeral
+numeral-fits x e = and-both e refl
+
+pub minus-zero-fits : (d : ℕ) → d ≤ 3 → fitsNumeral (minusZero d) ≡ true
+unfolding fitsNumeral
+minus-zero-fits d h = and-both (within-fits (withDecimals (pos 0) d) (lit≤ tt) h) refl
+
 -- ---- one character more
 
 -- a digit behind fewer than four digits, and the code behind four
@@ -44,15 +58,15 @@ pub next-code : (n c : ℕ) → isDigit c ≡ true → n ≤ 9999 → readNext (
 unfolding readNext
 next-code n c e h = simp (e, le-leb n 9999 h)
 
-pub decode-pos : (m d : ℕ) → d ≤ 3 → decode m d ≡ Number (withDecimals (pos m) d)
+pub decode-pos : (m d : ℕ) → d ≤ 3 → decode m d ≡ Number (numeral (withDecimals (pos m) d))
 unfolding decode
 decode-pos m d h = simp (le-leb d 3 h)
 
-pub decode-neg : (m d : ℕ) → d ≤ 3 → decode m (d + 5) ≡ Number (withDecimals (negℤ (pos m)) d)
+pub decode-neg : (m d : ℕ) → d ≤ 3 → decode m (d + 5) ≡ Number (negative m d)
 unfolding decode
 decode-neg m d h =
     simp (lt-leb (d + 5) 3 (omega arith), le-leb 5 (d + 5) (omega arith), le-leb (d + 5) 8 (omega arith))
-    (ap (λ (e : ℕ). Number (withDecimals (negℤ (pos m)) e)) (back d))
+    (ap (λ (e : ℕ). Number (negative m e)) (back d))
   where
     back : (d : ℕ) → d + 5 - 5 ≡ d
     back d = omega arith
@@ -91,22 +105,49 @@ read-code m k h l =
     same k l = omega arith
 
 -- reading what is written gives the number and its decimals
-written : (n : ℤ) (d : ℕ) → fits (withDecimals n d) ≡ true → readData (spellData (withDecimals n d)) ≡ Number (withDecimals n d)
+written : (n : ℤ) (d : ℕ) → fits (withDecimals n d) ≡ true → readData (spellData (withDecimals n d)) ≡ Number (numeral (withDecimals n d))
 unfolding spellData codeOf
 written (pos n) d e =
     let w = fits-within (withDecimals (pos n) d) e in read-code n d (w .0) (omega (arith, w .1)) ∙ decode-pos n d (w .1)
 written (negsuc n) d e =
     let w = fits-within (withDecimals (negsuc n) d) e in
     read-code (suc n) (d + 5) (w .0) (omega (arith, w .1)) ∙ decode-neg (suc n) d (w .1)
+    ∙ ap (λ (z : Bool). Number (withZero (withDecimals (negsuc n) d) z)) (some n)
+  where
+    some : (n : ℕ) → eqb (suc n) 0 ≡ false
+    some n = ne-eqb (suc n) 0 (λ (h : suc n ≡ 0). omega arith)
 
-pub read-written : (x : Decimal) → fits x ≡ true → readData (spellData x) ≡ Number x
-read-written x e = written (x .number) (x .decimals) e
+-- a number is never written as minus zero
+pub read-number : (x : Decimal) → fits x ≡ true → readData (spellData x) ≡ Number (numeral x)
+read-number x e = written (x .number) (x .decimals) e
+
+only-zero : (n : ℤ) → eqb (natAbs n) 0 ≡ true → n ≡ pos 0
+only-zero (pos n) e = ap pos (eqb-true n 0 e)
+only-zero (negsuc n) e = absurd (never n (eqb-true (suc n) 0 e))
+  where
+    never : (n : ℕ) → suc n ≡ 0 → ⊥
+    never n h = omega arith
+
+signed : (v : Decimal) (z : Bool) → fitsNumeral (withZero v z) ≡ true
+    → readData (spellNumeral (withZero v z)) ≡ Number (withZero v z)
+unfolding spellNumeral fitsNumeral
+signed v false e = read-number v (search ands)
+signed v true e =
+    let zero-is : v .number ≡ pos 0 = only-zero (v .number) (search ands) in
+    let w = fits-within v (search ands) in
+    read-code 0 (v .decimals + 5) (lit≤ tt) (omega (arith, w .1)) ∙ decode-neg 0 (v .decimals) (w .1)
+    ∙ ap (λ (n : ℤ). Number (withZero (withDecimals n (v .decimals)) true)) (sym zero-is)
+
+-- reading what is written gives what was written, minus zero too
+pub read-written : (x : Numeral) → fitsNumeral x ≡ true → readData (spellNumeral x) ≡ Number x
+read-written x e = signed (x .value) (isMinusZero x) e
 
 -- two numbers that are written alike are the same, decimals too
 pub spell-injective : (x y : Decimal) → fits x ≡ true → fits y ≡ true → spellData x ≡ spellData y → x ≡ y
 spell-injective x y p q h =
-    let same : Number x ≡ Number y = sym (read-written x p) ∙ ap readData h ∙ read-written y q in
-    cc
+    let same : Number (numeral x) ≡ Number (numeral y) = sym (read-number x p) ∙ ap readData h ∙ read-number y q in
+    let both : numeral x ≡ numeral y = cc in
+    ap (λ (z : Numeral). z .value) both
 
 -- ---- what has been read
 
@@ -115,11 +156,10 @@ abbrev pub lastDigits : ℕ → ℕ → List ℕ
 lastDigits zero n = []
 lastDigits (suc k) n = lastDigits k (n / 10) ++ digit (n % 10) ∷ []
 
--- x is what the characters cs read as: their value so far, or a number that is written as cs again unless that was minus zero,
--- and then they are five
+-- x is what the characters cs read as: their value so far, or a number that is written as cs again, and then they are five
 abbrev pub Read : List ℕ → Data → Type 0
 Read cs (Partial k n) = (k ≤ 4) × (n < 10 ^ k) × (cs ≡ lastDigits k n)
-Read cs (Number x) = (fits x ≡ true) × ((x .number ≡ pos 0 → digitOf (getD cs 4 0) ≤ 3) → spellData x ≡ cs) × (length cs ≡ 5)
+Read cs (Number x) = (fitsNumeral x ≡ true) × (spellNumeral x ≡ cs) × (length cs ≡ 5)
 Read cs Invalid = Unit {0}
 
 small : (k n : ℕ) → k ≤ 4 → n < 10 ^ k → n ≤ 9999
@@ -149,28 +189,28 @@ five-are n c e =
     let same : digitOf c % 10 ≡ digitOf c = omega arith in
     ap (λ (y : ℕ). lastDigits 4 n ++ y ∷ []) (ap digit same ∙ digit-again c e)
 
-below : (n k : ℕ) → 5 ≤ k → (n ≡ 0 → k ≤ 3) → spellData (withDecimals (negℤ (pos n)) (k - 5)) ≡ fiveDigits n k
-unfolding spellData codeOf
-below zero k h z = absurd (never (z refl) h)
-  where
-    never : k ≤ 3 → 5 ≤ k → ⊥
-    never p q = omega arith
-below (suc n) k h z = ap (fiveDigits (suc n)) (omega arith)
+below : (n k : ℕ) → 5 ≤ k → spellNumeral (negative n (k - 5)) ≡ fiveDigits n k
+unfolding spellNumeral spellData codeOf
+below zero k h = ap (fiveDigits 0) (omega arith)
+below (suc n) k h = rw (ne-eqb (suc n) 0 (λ (e : suc n ≡ 0). omega arith)) (ap (fiveDigits (suc n)) (omega arith))
+
+negative-fits : (n d : ℕ) → n ≤ 9999 → d ≤ 3 → fitsNumeral (negative n d) ≡ true
+unfolding fitsNumeral
+negative-fits n d h l =
+    let m : natAbs (negℤ (pos n)) ≡ n = natAbs-minus (pos n) in
+    and-both (within-fits (withDecimals (negℤ (pos n)) d) (omega arith) l) (rw m (by-test (eqb n 0) (λ t. rw t) (λ t. rw t)))
 
 coded : (n c : ℕ) → isDigit c ≡ true → n ≤ 9999 → Read (lastDigits 4 n ++ c ∷ []) (decode n (digitOf c))
-unfolding decode spellData codeOf
+unfolding decode spellNumeral spellData codeOf
 coded n c e h =
     choice (Read (lastDigits 4 n ++ c ∷ [])) (leb (digitOf c) 3)
-    (λ t. (within-fits (withDecimals (pos n) (digitOf c)) h (leb-true (digitOf c) 3 t), (λ z. five-are n c e), refl))
+    (λ t. (numeral-fits _ (within-fits (withDecimals (pos n) (digitOf c)) h (leb-true (digitOf c) 3 t)), five-are n c e, refl))
     (λ t.
     choice (Read (lastDigits 4 n ++ c ∷ [])) (leb 5 (digitOf c) && leb (digitOf c) 8)
     (λ u.
     let low : 5 ≤ digitOf c = leb-true 5 (digitOf c) (and-left (leb 5 (digitOf c)) (leb (digitOf c) 8) u) in
-    let high : digitOf c ≤ 8 = leb-true (digitOf c) 8 (and-right (leb 5 (digitOf c)) (leb (digitOf c) 8) u) in (
-      within-fits (withDecimals (negℤ (pos n)) (digitOf c - 5)) (omega (arith, natAbs-minus (pos n))) (omega arith),
-      (λ z. below n (digitOf c) low (λ o. z (ap (λ (m : ℕ). negℤ (pos m)) o)) ∙ five-are n c e),
-      refl,
-    ))
+    let high : digitOf c ≤ 8 = leb-true (digitOf c) 8 (and-right (leb 5 (digitOf c)) (leb (digitOf c) 8) u) in
+    (negative-fits n (digitOf c - 5) h (omega arith), below n (digitOf c) low ∙ five-are n c e, refl))
     (λ u. tt))
 
 -- each character keeps it
@@ -200,22 +240,16 @@ unfolding readData
 read-is cs = read-from [] cs start (lit≤ tt, omega arith, refl)
 
 -- what is read fits
-pub read-fits : (cs : List ℕ) (x : Decimal) → readData cs ≡ Number x → fits x ≡ true
+pub read-fits : (cs : List ℕ) (x : Numeral) → readData cs ≡ Number x → fitsNumeral x ≡ true
 read-fits cs x e = subst (Read cs) e (read-is cs) .0
 
 -- and has five characters
-pub read-length : (cs : List ℕ) (x : Decimal) → readData cs ≡ Number x → length cs ≡ 5
+pub read-length : (cs : List ℕ) (x : Numeral) → readData cs ≡ Number x → length cs ≡ 5
 read-length cs x e = subst (Read cs) e (read-is cs) .2
 
--- what is read is written as the same characters, unless they are minus zero: a zero whose code is not one of 0 to 3
-pub written-read : (cs : List ℕ) (x : Decimal) → readData cs ≡ Number x → (x .number ≡ pos 0 → digitOf (getD cs 4 0) ≤ 3) → spellData x ≡ cs
-written-read cs x e z = subst (Read cs) e (read-is cs) .1 z
-
--- and minus zero is never written
-pub zero-code : (d : ℕ) → fits (withDecimals (pos 0) d) ≡ true → digitOf (getD (spellData (withDecimals (pos 0) d)) 4 0) ≤ 3
-unfolding spellData fiveDigits codeOf
-zero-code d e =
-    omega (arith, fits-within (withDecimals (pos 0) d) e .1, digit-back (d % 10))
+-- what is read is written as the same characters
+pub written-read : (cs : List ℕ) (x : Numeral) → readData cs ≡ Number x → spellNumeral x ≡ cs
+written-read cs x e = subst (Read cs) e (read-is cs) .1
 
 -- data that is not yet all there: as many digits as were counted, and those of its value
 pub partial-digits : (cs : List ℕ) (k n : ℕ) → readData cs ≡ Partial k n → (k ≤ 4) × (n < 10 ^ k) × (cs ≡ lastDigits k n)
@@ -244,7 +278,7 @@ pub record Completion (k n : ℕ) : Type 0 where
   pub rest : List ℕ
   pub digits : AllDigits rest
   pub whole : k + length rest ≡ 5
-  pub number : Decimal
+  pub number : Numeral
   pub reads : readFrom (Partial k n) rest ≡ Number number
 
 -- by zeros, for j digits and the code
@@ -256,7 +290,7 @@ by-zeros zero k n e l =
       rest = digit 0 ∷ [];
       digits = (digit-is 0 (lit≤ tt), tt);
       whole = omega arith;
-      number = withDecimals (pos n) 0;
+      number = numeral (withDecimals (pos n) 0);
       reads =
           ap (λ (j : ℕ). readNext (Partial j n) (digit 0)) four
           ∙ next-code n (digit 0) (digit-is 0 (lit≤ tt)) (small k n (omega arith) l)
@@ -286,7 +320,7 @@ partial-viable cs k n e =
     let p = partial-digits cs k n e in completion k n (p .0) (p .1)
 
 -- nothing follows five digits, or what is no data
-pub next-number : (x : Decimal) (c : ℕ) → readNext (Number x) c ≡ Invalid
+pub next-number : (x : Numeral) (c : ℕ) → readNext (Number x) c ≡ Invalid
 unfolding readNext
 next-number x c = refl
 

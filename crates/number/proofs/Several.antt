@@ -11,10 +11,10 @@ use lib.Seq.{take-append-seam, drop-append-seam, drop-append-add}
 use Rattle.refusal.specs.Lists.{every}
 use Rattle.refusal.proofs.Logic.{and-left, and-right}
 use Rattle.number.specs.declared.Decimal.{Decimal}
-use Rattle.number.specs.Data.{withDecimals, fits, spellData, readData, spellAll}
+use Rattle.number.specs.Data.{withDecimals, fits, numeral, spellData, readData, spellAll}
 use Rattle.number.specs.declared.Data.the-variants.{Number}
 use Rattle.number.proofs.Digits.{data-length}
-use Rattle.number.proofs.Reading.{read-written, spell-injective}
+use Rattle.number.proofs.Reading.{read-number, spell-injective}
 
 pub all-length : (xs : List Decimal) → length (spellAll xs) ≡ 5 * length xs
 unfolding spellAll
@@ -56,8 +56,8 @@ every-nth (x ∷ xs) zero e h = and-left (fits x) (every fits xs) e
 every-nth (x ∷ xs) (suc j) e h = every-nth xs j (and-right (fits x) (every fits xs) e) (omega arith)
 
 -- each is read back from its place
-pub each-read : (xs : List Decimal) (j : ℕ) (cs : List ℕ) → every fits xs ≡ true → j < length xs → readData (take 5 (drop (5 * j) (spellAll xs ++ cs))) ≡ Number (nth xs j)
-each-read xs j cs e h = ap readData (each-data xs j cs h) ∙ read-written (nth xs j) (every-nth xs j e h)
+pub each-read : (xs : List Decimal) (j : ℕ) (cs : List ℕ) → every fits xs ≡ true → j < length xs → readData (take 5 (drop (5 * j) (spellAll xs ++ cs))) ≡ Number (numeral (nth xs j))
+each-read xs j cs e h = ap readData (each-data xs j cs h) ∙ read-number (nth xs j) (every-nth xs j e h)
 
 none-some : (x : Decimal) (xs : List Decimal) → spellAll [] ≡ spellAll (x ∷ xs) → ⊥
 unfolding spellAll

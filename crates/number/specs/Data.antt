@@ -1,10 +1,11 @@
 -- Five digits of data: a number of four digits, and a code that gives the decimals and the sign.
-use mathlib.Core.Bool.{Bool, cond, _&&_}
+use mathlib.Core.Bool.{Bool, true, false, cond, not, _&&_, _||_}
 use mathlib.Core.List.{List, [], _∷_, _++_}
 use Prim.Native.Nat.{ℕ, _+_, _-_, _*_, _/_, _%_}
-use lib.Dec.{ltb, leb}
+use lib.Dec.{ltb, leb, eqb}
 use lib.IntN.{ℤ, pos, negsuc, negℤ, natAbs}
 use Rattle.number.specs.declared.Decimal.{Decimal}
+use Rattle.number.specs.declared.Numeral.{Numeral}
 use Rattle.number.specs.declared.Data.{Data}
 use Rattle.number.specs.declared.Data.the-variants.{Partial, Number, Invalid}
 
@@ -26,6 +27,24 @@ withDecimals n d = record { number = n; decimals = d }
 unfoldable pub fits : Decimal → Bool
 fits x = leb (natAbs (x .number)) 9999 && leb (x .decimals) 3
 
+-- a number as a message has it; document 02, ticket 5: "everything that reads numbers must say which it had", minus zero or zero
+abbrev pub withZero : Decimal → Bool → Numeral
+withZero x z = record { value = x; «minus_zero» = z }
+
+abbrev pub isMinusZero : Numeral → Bool
+isMinusZero x = x .«minus_zero»
+
+-- a number that is no minus zero, and minus zero with so many decimals
+abbrev pub numeral : Decimal → Numeral
+numeral x = withZero x false
+
+abbrev pub minusZero : ℕ → Numeral
+minusZero d = withZero (withDecimals (pos 0) d) true
+
+-- what five digits can say: only zero is minus zero
+unfoldable pub fitsNumeral : Numeral → Bool
+fitsNumeral x = fits (x .value) && (not (isMinusZero x) || eqb (natAbs (x .value .number)) 0)
+
 -- ---- written
 
 -- document 01: "code equal to the decimals for zero and above, plus 5 below zero"
@@ -37,18 +56,25 @@ codeOf (negsuc n) d = d + 5
 unfoldable pub fiveDigits : ℕ → ℕ → List ℕ
 fiveDigits m k = digit (m / 10 / 10 / 10 % 10) ∷ digit (m / 10 / 10 % 10) ∷ digit (m / 10 % 10) ∷ digit (m % 10) ∷ digit (k % 10) ∷ []
 
--- a number as five digits
+-- a number as five digits; no number is written as minus zero
 unfoldable pub spellData : Decimal → List ℕ
 spellData x = fiveDigits (natAbs (x .number)) (codeOf (x .number) (x .decimals))
 
+-- and as a message has it: minus zero has the code of a number below zero
+unfoldable pub spellNumeral : Numeral → List ℕ
+spellNumeral x = cond (isMinusZero x) (fiveDigits 0 (x .value .decimals + 5)) (spellData (x .value))
+
 -- ---- read, one character after the other
 
+-- the negative of m; document 02, ticket 5: "The digit reader must now tell minus zero from zero"
+abbrev pub negative : ℕ → ℕ → Numeral
+negative m d = withZero (withDecimals (negℤ (pos m)) d) (eqb m 0)
+
 -- document 01: "0 to 3 is that many decimals, positive; 5 to 8 is code minus 5 decimals, negative. Code 4 or 9 is not well formed."
--- "Minus zero is read as zero": the negative of zero is zero.
 unfoldable pub decode : ℕ → ℕ → Data
 decode m k =
-    cond (leb k 3) (Number (withDecimals (pos m) k))
-    (cond (leb 5 k && leb k 8) (Number (withDecimals (negℤ (pos m)) (k - 5))) Invalid)
+    cond (leb k 3) (Number (numeral (withDecimals (pos m) k)))
+    (cond (leb 5 k && leb k 8) (Number (negative m (k - 5))) Invalid)
 
 -- before the first character
 abbrev pub start : Data

@@ -6,7 +6,7 @@ ghost use Prim.Native.Nat.{_%_, _≤_};
 ghost use lib.IntN.{pos, natAbs};
 ghost use lib.Signed.{leZ};
 ghost use Rattle.number.specs.Number.{inRange, isMultiple, cutDown, cut, raised, lowered};
-ghost use Rattle.number.specs.Data.{isDigit, fits, codeOf, fiveDigits, spellData, decode, readNext, readData};
+ghost use Rattle.number.specs.Data.{isDigit, fits, fitsNumeral, codeOf, fiveDigits, spellData, spellNumeral, decode, readNext, readData};
 ghost use Rattle.number.specs.Inner.{characters};
 
 // A number in units of its last decimal, and how many decimals it has.
@@ -15,10 +15,16 @@ pub struct Decimal {
     pub decimals: u8,
 }
 
+// A number as a message has it: the sign of zero, which a number has not, stands beside it.
+pub struct Numeral {
+    pub value: Decimal,
+    pub minus_zero: bool,
+}
+
 // Data as far as it has been read: fewer than five digits, all five, or something that is no data.
 pub enum Data {
     Partial { count: u8, value: u32 },
-    Number(Decimal),
+    Number(Numeral),
     Invalid,
 }
 
@@ -105,6 +111,14 @@ pub fn fits(x: Decimal) -> bool
     (magnitude(x.number) <= 9999) & (x.decimals <= 3)
 }
 
+// The same of a number as a message has it: only zero is minus zero.
+pub fn fits_numeral(x: Numeral) -> bool
+    ensures { λ r. ⌜ r ≡ fitsNumeral x ⌝ }
+{
+    let value = x.value;
+    fits(value) & (!x.minus_zero | (magnitude(value.number) == 0))
+}
+
 // The decimals, and 5 more below zero.
 pub fn code(number: i32, decimals: u8) -> u32
     ensures { λ r. ⌜ r ≡ codeOf number decimals ⌝ }
@@ -164,6 +178,18 @@ pub fn write_data(x: Decimal) -> [u8; 5]
     }
 }
 
+// A number as a message has it. Minus zero has the code of a number below zero.
+pub fn write_numeral(x: Numeral) -> [u8; 5]
+    ensures { λ r. ⌜ r ≡ spellNumeral x ⌝ }
+{
+    let value = x.value;
+    if x.minus_zero {
+        five_digits(0, (value.decimals as u32 + 5) % 10)
+    } else {
+        write_data(value)
+    }
+}
+
 // A number of four digits with the digit of its code.
 fn decoded(m: u32, k: u8) -> Data
     requires { ⌜ m ≤ 9999 ⌝ }
@@ -172,11 +198,15 @@ fn decoded(m: u32, k: u8) -> Data
     if k <= 3 {
         let number = m as i32;
         let decimals = k;
-        Data::Number(Decimal { number, decimals })
+        let value = Decimal { number, decimals };
+        let minus_zero = false;
+        Data::Number(Numeral { value, minus_zero })
     } else if (5 <= k) & (k <= 8) {
         let number = -(m as i32);
         let decimals = k - 5;
-        Data::Number(Decimal { number, decimals })
+        let value = Decimal { number, decimals };
+        let minus_zero = m == 0;
+        Data::Number(Numeral { value, minus_zero })
     } else {
         Data::Invalid
     }

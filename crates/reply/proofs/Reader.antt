@@ -27,7 +27,7 @@ use Rattle.number.specs.declared.Data.the-variants.{Partial, Invalid}
 use Rattle.number.specs.declared.Data.the-variants as read
 use Rattle.number.specs.Data.{withDecimals, digit, isDigit, digitOf, fits, spellData, readData, spellAll}
 use Rattle.number.proofs.Digits.{digit-is, digit-back, data-length, data-digits}
-use Rattle.number.proofs.Reading.{read-written, read-length}
+use Rattle.number.proofs.Reading.{read-number, read-length}
 use Rattle.number.proofs.Several.{all-length, first-data, nth, each-read}
 use Rattle.message.specs.Message.{star, question, isLetter, isAddress, isIdentifier}
 use Rattle.message.specs.Spell.{spellAddress}
@@ -184,7 +184,7 @@ before-last xs m s =
 -- a number that stands from a place on
 number-back : (cs : List ℕ) (k : ℕ) (x : Decimal) → fits x ≡ true → take 5 (drop k cs) ≡ spellData x → decimalAt cs k ≡ x
 unfolding decimalAt readOrZero
-number-back cs k x h e = ap (λ (ds : List ℕ). readOrZero (readData ds)) e ∙ ap readOrZero (read-written x h)
+number-back cs k x h e = ap (λ (ds : List ℕ). readOrZero (readData ds)) e ∙ ap readOrZero (read-number x h)
 
 one-digit : (l a i : ℕ) (xs : List ℕ) → isIdentifier i ≡ true → guess (l ∷ digit a ∷ i ∷ xs) ≡ guessBehind l a (i ∷ xs)
 unfolding guess

@@ -34,10 +34,10 @@ charactersOf bs = map (λ (b : ℕ). b % 128) bs
 unfoldable pub guessMark : ℕ → Mark
 guessMark c = cond (eqb c (code "A")) mark.Accepted (cond (eqb c (code "I")) mark.Offered mark.Declined)
 
--- a number as it was read; 0 where it was none, which is then spelled otherwise
+-- a number as it was read; 0 where it was none, and zero where it was minus zero, which are then spelled otherwise
 unfoldable pub readOrZero : Data → Decimal
 readOrZero (read.Partial k n) = withDecimals (pos 0) 0
-readOrZero (read.Number x) = x
+readOrZero (read.Number x) = x .value
 readOrZero read.Invalid = withDecimals (pos 0) 0
 
 -- the number that stands from a place on

@@ -56,7 +56,7 @@ placed-whole xs out h = placed-front xs out ∙ ap (λ (l : List ℕ). xs ++ l) 
 pub setup-same : (row row′ : List ℤ) → at row 0 ≡ at row′ 0 → at row 1 ≡ at row′ 1 → ((k : ℕ) → at row (16 + k) ≡ at row′ (16 + k)) → setupOf row ≡ setupOf row′
 unfolding setupOf
 setup-same row row′ l a h =
-    simp (l, a, h 0, scan-bytes row, scan-bytes row′, h 1, h 2, h 3, h 4, h 5)
+    simp (l, a, h 0, scan-bytes row, scan-bytes row′, h 1, h 2, h 3, h 4, h 5, h 6)
 
 -- ---- an offer by its three numbers
 

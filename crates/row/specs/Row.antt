@@ -1,5 +1,6 @@
--- A card as a row of twenty-two numbers: 0 letter, 1 address, 2 count of open characters, 3 to 12 the characters (0 behind), 13 mark of
--- an offer (1, or 0 for none), 14 its identifier, 15 its value, 16 count of the scan's identifiers, 17 to 21 the identifiers.
+-- A card as a row of twenty-three numbers: 0 letter, 1 address, 2 count of open characters, 3 to 12 the characters (0 behind), 13 mark of
+-- an offer (1, or 0 for none), 14 its identifier, 15 its value, 16 count of the scan's identifiers, 17 to 21 the identifiers, 22
+-- revision.
 use mathlib.Core.Bool.{Bool, cond, _&&_}
 use mathlib.Core.List.{List, [], _∷_, _++_, map}
 use Prim.Native.Nat.{ℕ, zero, suc}
@@ -33,18 +34,19 @@ byteOf z = byteOr 0 z
 
 -- whether the numbers are some card, sound or not; what is none is number 1 in its first place
 unfoldable pub isRow : List ℤ → Bool
-isRow row = eqb (length row) 22 && every isByte (take 13 row)
+isRow row = eqb (length row) 23 && every isByte (take 13 row)
 
 -- the first n of the numbers, each as its byte; 0 behind the last
 unfoldable pub bytesIn : ℕ → List ℤ → List ℕ
 bytesIn zero zs = []
 bytesIn (suc n) zs = byteOf (at zs 0) ∷ bytesIn n (drop 1 zs)
 
+-- a revision that is no byte is 0: no sound card has that one, so it is number 1 in its first place, as any but 1 and 2 is;
 -- a count that is no byte is 255, and an identifier that is no byte is 0: no sound card counts so many or names that one, so it is number 1
 -- in its second place. What stands behind the count may be anything.
 unfoldable pub setupOf : List ℤ → Setup
 setupOf row =
-    record { letter = byteOf (at row 0); address = byteOf (at row 1); count = byteOr 255 (at row 16); scan = bytesIn mostNamed (drop 17 row) }
+    record { letter = byteOf (at row 0); address = byteOf (at row 1); count = byteOr 255 (at row 16); scan = bytesIn mostNamed (drop 17 row); revision = byteOf (at row 22) }
 
 unfoldable pub pendingOf : List ℤ → Pending
 pendingOf row = record { chars = bytesIn most (drop 3 row); len = byteOf (at row 2) }

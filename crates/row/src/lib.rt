@@ -1,6 +1,6 @@
-// A card as a row of twenty-two numbers, for hosts and for what holds many cards: letter, address, count of open characters, ten
+// A card as a row of twenty-three numbers, for hosts and for what holds many cards: letter, address, count of open characters, ten
 // characters (0 behind), 1 or 0 for an offer, its identifier, its value (0, 0 where there is none), count of the scan's identifiers,
-// five identifiers.
+// five identifiers, revision.
 ghost use mathlib.Core.Path.{_≡_};
 ghost use mathlib.Core.List.{[], _∷_, map};
 ghost use Prim.Native.Nat.{_≤_};
@@ -18,7 +18,7 @@ use card::Card;
 use hearing::Pending;
 
 // The numbers of a row.
-pub const LENGTH: usize = 22;
+pub const LENGTH: usize = 23;
 
 // Words change the numbers from 2 up to this.
 const CHANGING_END: usize = 16;
@@ -94,11 +94,13 @@ fn setup_of(row: &[i32]) -> Setup
     let address = byte_at(row, 1);
     let count = byte_or(255, number_at(row, 16));
     let scan = names_of(row);
+    let revision = byte_at(row, 22);
     Setup {
         letter,
         address,
         count,
         scan,
+        revision,
     }
 }
 

@@ -19,7 +19,7 @@ returns c =
     let a = s .args in
     let out = a .out .now in
     let e =
-    ap (λ (z : ℤ). writeAsked (asked (a .letter) (a .address) (a .identifier) (a .kind) z (a .decimals)) out) (sym (rd-is (s .fits .number)))
+    ap (λ (z : ℤ). writeAsked (asked (a .letter) (a .address) (a .identifier) (a .kind) z (a .decimals) (a .minus-zero)) out) (sym (rd-is (s .fits .number)))
     ∙ ap (λ (p : Parsed). writeAsked p out) (sym (k .asked .ensures) ∙ m .message .given .1) in
     ap (λ (z : ℤ). filled z (w .last .1 .0)) (wide-ok (c .result .result) (c .result .ok) ∙ c .result .ensures) ∙ ap given (w .ensures ∙ sym e)
 
@@ -32,7 +32,7 @@ returns-2 c =
     let a = s .args in
     let out = a .out .now in
     let e =
-    ap (λ (z : ℤ). writeAsked (asked (a .letter) (a .address) (a .identifier) (a .kind) z (a .decimals)) out) (sym (rd-is (s .fits .number)))
+    ap (λ (z : ℤ). writeAsked (asked (a .letter) (a .address) (a .identifier) (a .kind) z (a .decimals) (a .minus-zero)) out) (sym (rd-is (s .fits .number)))
     ∙ ap (λ (p : Parsed). writeAsked p out) (sym (k .asked .ensures) ∙ m .enum-told .given .1) in
     ap (λ (z : ℤ). filled z out) (wide-ok (c .minus-number .result) (c .minus-number .ok) ∙ c .minus-number .ensures) ∙ sym (ap given e)
 

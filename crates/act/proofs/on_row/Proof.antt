@@ -22,7 +22,7 @@ returns-2 c =
     let t = v .before .before in
     let s = t .before .before .before in
     c .serve .ensures
-    ∙ ap₂ (λ (e : Entry) (z : ℤ). serve (s .args .message) e (s .args .offer) z (s .args .message .body)) (v .before .find-at .ensures) (rd-ok (v .value-at .result) (v .value-at .ok) ∙ v .value-at .ensures)
+    ∙ ap₂ (λ (e : Entry) (z : ℤ). serve (s .args .setup) (s .args .message) e (s .args .offer) z (s .args .message .body)) (v .before .find-at .ensures) (rd-ok (v .value-at .result) (v .value-at .ok) ∙ v .value-at .ensures)
     ∙ sym (row-is _ _ _ _ _ ∙ rw (sym (t .before .is-for .ensures) ∙ not-false _ (t .if1 .left)))
 
 pub on-row-spec : {M : Type 1} → statement M

@@ -34,7 +34,7 @@ unfolding serve
 returns-5 c =
     let b = c .before .before .body .given in
     let s = c .before .before .before .before in
-    c .set-to .ensures ∙ ap (λ (v : ℤ). setTo (s .args .message) (s .args .entry) v (b .0 .0)) (rd-is (s .fits .value)) ∙ sym (rw (b .1))
+    c .set-to .ensures ∙ ap (λ (v : ℤ). setTo (s .args .setup) (s .args .message) (s .args .entry) v (b .0 .0)) (rd-is (s .fits .value)) ∙ sym (rw (b .1))
 
 returns-6 : tie.Need-returns-6
 unfolding serve

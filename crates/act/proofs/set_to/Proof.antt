@@ -1,14 +1,18 @@
 -- `act::set_to` meets its contract: the arm and the test say which case it is. Assumes nothing.
 use mathlib.Core.Path.{_≡_, sym, ap, _∙_}
-use mathlib.Core.Bool.{Bool, true, false, _&&_}
+use mathlib.Core.Bool.{Bool, true, false, not, _&&_}
 use lib.Dec.{eqb}
-use Rattle.number.specs.declared.Decimal.{Decimal}
+use Rattle.number.specs.declared.Numeral.{Numeral}
+use Rattle.number.specs.Data.{isMinusZero}
 use Rattle.number.specs.Number.{inRange}
 use Rattle.number.proofs.Signed.{rd-is}
+use Rattle.message.specs.declared.Body.the-variants.{Set}
+use Rattle.message.specs.Message.{asksMinusZero}
 use Rattle.sheet.specs.declared.Row.{Row}
 use Rattle.sheet.specs.declared.Entry.{Entry}
 use Rattle.sheet.specs.declared.Entry.the-variants.{Found}
 use Rattle.sheet.specs.Values.{isWritable}
+use Rattle.act.specs.Cause.{takesZero}
 use Rattle.act.specs.Act.{offers}
 use Rattle.act.specs.Inner.{declines, setTo}
 use borrow.Author.Needs.{needs}
@@ -23,22 +27,23 @@ returns c =
 
 module _ (c : tie.After-in-range) where
   abbrev writing : tie.After-is-writable
-  writing = c .before .before .before .before .before .before
+  writing = c .before .before .before .before .before .before .before .before
 
   abbrev row : Row
-  row = writing .before .before .entry .given .0 .0
+  row = writing .before .before .before .entry .given .0 .0
 
   abbrev asked : tie.Start
-  asked = writing .before .before .before .before
+  asked = writing .before .before .before .before .before
 
-  abbrev number : Decimal
+  abbrev number : Numeral
   number = asked .args .x
 
   -- the test of the definition, and that the code's is the same
   abbrev test : Bool
-  test = isWritable row && eqb (number .decimals) (row .decimals) && inRange (row .least) (number .number) (row .greatest)
+  test = isWritable row && eqb (number .value .decimals) (row .decimals) && takesZero (asked .args .setup) (Set number) && inRange (row .least) (number .value .number) (row .greatest)
 
-  was : test ≡ (writing .is-writable .result && eqb (number .decimals) (row .decimals) && c .in-range .result)
+  was : test ≡ (writing .is-writable .result && eqb (number .value .decimals) (row .decimals) && not (isMinusZero number && eqb (asked .args .setup .revision) 2) && c .in-range .result)
+  unfolding takesZero asksMinusZero
   was =
       let given = c .before .before .before .struct-told .given .1 .1 in
       sym
@@ -47,17 +52,17 @@ module _ (c : tie.After-in-range) where
         c .in-range .ensures,
         rd-is {z = row .least} (record { sfits = given .1 .0 .1 }),
         rd-is {z = row .greatest} (record { sfits = given .1 .1 .0 .1 }),
-        rd-is {z = number .number} (record { sfits = c .before .before .struct-told2 .given .0 .1 }),
+        rd-is {z = number .value .number} (record { sfits = c .before .before .struct-told2 .given .0 .1 }),
       ))
 
-  found : setTo (asked .args .message) (asked .args .entry) (asked .args .value) number ≡ setTo (asked .args .message) (Found row) (asked .args .value) number
-  found = ap (λ (e : Entry). setTo (asked .args .message) e (asked .args .value) number) (writing .before .before .entry .given .1)
+  found : setTo (asked .args .setup) (asked .args .message) (asked .args .entry) (asked .args .value) number ≡ setTo (asked .args .setup) (asked .args .message) (Found row) (asked .args .value) number
+  found = ap (λ (e : Entry). setTo (asked .args .setup) (asked .args .message) e (asked .args .value) number) (writing .before .before .before .entry .given .1)
 
-  accepted : test ≡ true → setTo (asked .args .message) (Found row) (asked .args .value) number ≡ offers (asked .args .message) row (number .number)
+  accepted : test ≡ true → setTo (asked .args .setup) (asked .args .message) (Found row) (asked .args .value) number ≡ offers (asked .args .message) row (number .value .number)
   unfolding setTo
   accepted e = rw e
 
-  refused : test ≡ false → setTo (asked .args .message) (Found row) (asked .args .value) number ≡ declines (asked .args .message) (Found row) (asked .args .value)
+  refused : test ≡ false → setTo (asked .args .setup) (asked .args .message) (Found row) (asked .args .value) number ≡ declines (asked .args .message) (Found row) (asked .args .value)
   unfolding setTo
   refused e = rw e
 
@@ -67,7 +72,7 @@ returns-2 c =
     let t = n .before .before in
     let s = asked t in
     c .offers .ensures
-    ∙ ap (offers (s .args .message) (row t)) (rd-is {z = number t .number} (record { sfits = n .struct-told4 .given .0 .1 }))
+    ∙ ap (offers (s .args .message) (row t)) (rd-is {z = number t .value .number} (record { sfits = n .struct-told4 .given .0 .1 }))
     ∙ sym (found t ∙ accepted t (was t ∙ n .before .if1 .taken))
 
 returns-3 : tie.Need-returns-3

@@ -4,7 +4,7 @@ use Rattle.demands.proofs.demands.Statement.{statement}
 use Rattle.demands.proofs.demands.Tie as tie
 use Rattle.demands.specs.Demand2.{Demand2}
 use Rattle.demands.specs.Demands.{Demands}
-use Rattle.demands.proofs.Cases.{bench, more, twenty-heard, scan, no-replies}
+use Rattle.demands.proofs.Cases.{bench, more, first, second, twenty-heard, scan, no-replies}
 use Rattle.demands.proofs.Refusals.{demand-1}
 use Rattle.demands.proofs.Words.{writers-heard, run-steps}
 use Rattle.demands.proofs.Kept.{stays-sound}
@@ -14,6 +14,7 @@ use Rattle.demands.proofs.Offers.{offer-reachable, never-up}
 use Rattle.demands.proofs.Recordings.{demand-3}
 use Rattle.demands.proofs.Neighbours.{neighbours-ignored}
 use Rattle.demands.proofs.Causes.{causes}
+use Rattle.demands.proofs.Zeros.{zeros}
 
 demand-2 : Demand2
 demand-2 = record {
@@ -27,7 +28,21 @@ demand-2 = record {
 }
 
 all-hold : Demands
-all-hold = record { demand-1 = demand-1; demand-2 = demand-2; demand-3 = demand-3; neighbours-ignored = neighbours-ignored; causes = causes; bench = bench; more = more; twenty-heard = twenty-heard; scan = scan; no-replies = no-replies }
+all-hold = record {
+  demand-1 = demand-1;
+  demand-2 = demand-2;
+  demand-3 = demand-3;
+  neighbours-ignored = neighbours-ignored;
+  causes = causes;
+  zeros = zeros;
+  bench = bench;
+  more = more;
+  twenty-heard = twenty-heard;
+  first = first;
+  second = second;
+  scan = scan;
+  no-replies = no-replies;
+}
 
 returns : tie.Need-returns
 returns c = (refl, all-hold)

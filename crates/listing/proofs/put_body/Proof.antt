@@ -6,7 +6,7 @@ use native.Mathlib.Omega.{arith}
 use lib.Dec.{lit≤}
 use lib.ListN.{length}
 use Rattle.wire.specs.Text.{chars}
-use Rattle.number.proofs.Digits.{data-length}
+use Rattle.number.proofs.Digits.{numeral-length}
 use Rattle.listing.specs.Line.{kindAndData}
 use Rattle.listing.proofs.Texts.{as-before, both-before}
 use borrow.Author.Needs.{needs}
@@ -29,8 +29,8 @@ returns-2 c =
     let d = digits .before .before .before in
     let s = d .before .before in
     as-before (both-before (digits .put-all2 .ensures) (hash .put-all3 .ensures)) 7 _
-    (rw (sym (s .before .before .kind-of .ensures) ∙ s .x .given .1) (ap (λ (l : List ℕ). chars "# " ++ l) (sym (d .write-data .ensures))))
-    (omega (arith, ap length (d .write-data .ensures), data-length (s .x .given .0 .0)))
+    (rw (sym (s .before .before .kind-of .ensures) ∙ s .x .given .1) (ap (λ (l : List ℕ). chars "# " ++ l) (sym (d .write-numeral .ensures))))
+    (omega (arith, ap length (d .write-numeral .ensures), numeral-length (s .x .given .0 .0)))
 
 pub put-body-spec : {M : Type 1} → statement M
 put-body-spec = tie.close (tie.spec

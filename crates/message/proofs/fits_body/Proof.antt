@@ -23,7 +23,7 @@ returns-4 c = rw (c .enum-told4 .given .1)
 returns-5 : tie.Need-returns-5
 unfolding fitsBody
 returns-5 c =
-    rw (c .before .before .body .given .1) (simp (c .fits2 .ensures))
+    rw (c .before .before .body .given .1) (simp (c .fits-numeral .ensures))
 
 returns-6 : tie.Need-returns-6
 unfolding fitsBody

@@ -3,8 +3,8 @@
 use mathlib.Core.Path.{_≡_, ap, _∙_}
 use lib.ListN.{length, getD}
 use Rattle.wire.specs.Inner.{puts}
-use Rattle.number.specs.Data.{spellData}
-use Rattle.number.proofs.Digits.{data-length}
+use Rattle.number.specs.Data.{spellNumeral}
+use Rattle.number.proofs.Digits.{numeral-length}
 use Rattle.message.proofs.Places.{five-are}
 use Rattle.message.proofs.Spelling.{puts-five}
 use borrow.Author.Needs.{needs}
@@ -12,7 +12,7 @@ use Rattle.message.proofs.put_data.Statement.{statement}
 use Rattle.message.proofs.put_data.Tie as tie
 
 returns : tie.Need-returns
-returns c = c .put-all .ensures ∙ ap (puts (c .before .before .before .before .args .line)) (c .before .before .before .write-data .ensures)
+returns c = c .put-all .ensures ∙ ap (puts (c .before .before .before .before .args .line)) (c .before .before .before .write-numeral .ensures)
 
 returns-2 : tie.Need-returns-2
 returns-2 c =
@@ -22,9 +22,9 @@ returns-2 c =
     let w₁ = w₂ .before in
     let e = w₁ .before .before in
     let a = e .before .before .args in
-    let ds = e .before .write-data .result in
-    let is : ds ≡ spellData (a .x) = e .before .write-data .ensures in
-    let five : length ds ≡ 5 = ap length is ∙ data-length (a .x) in
+    let ds = e .before .write-numeral .result in
+    let is : ds ≡ spellNumeral (a .x) = e .before .write-numeral .ensures in
+    let five : length ds ≡ 5 = ap length is ∙ numeral-length (a .x) in
     puts-five (a .line) (getD ds 0 0) (getD ds 1 0) (getD ds 2 0) (getD ds 3 0) (getD ds 4 0)
     (w₁ .with-parity .ensures) (w₂ .with-parity2 .ensures) (w₃ .with-parity3 .ensures) (w₄ .with-parity4 .ensures) (c .with-parity5 .ensures) (e .if1 .left)
     ∙ ap (puts (a .line)) (five-are ds five ∙ is)

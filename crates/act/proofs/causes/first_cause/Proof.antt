@@ -35,6 +35,9 @@ start-5 k = start-4 (k .before .before)
 abbrev start-6 : tie.Else6 → tie.Start
 start-6 k = start-5 (k .before .before)
 
+abbrev start-7 : tie.Else7 → tie.Start
+start-7 k = start-6 (k .before .before)
+
 -- one after the other, those that are passed decide nothing
 passed-1 : (k : tie.Else1) → from (start-1 k) 0 ≡ from (start-1 k) 1
 unfolding first causes
@@ -58,7 +61,11 @@ passed-5 k = passed-4 (k .before .before) ∙ rw (k .if5 .left)
 
 passed-6 : (k : tie.Else6) → from (start-6 k) 0 ≡ from (start-6 k) 6
 unfolding first causes
-passed-6 k = passed-5 (k .before .before) ∙ rw (k .if6 .left)
+passed-6 k = passed-5 (k .before .before) ∙ rw (sym (k .before .takes-zero .ensures) ∙ not-false _ (k .if6 .left))
+
+passed-7 : (k : tie.Else7) → from (start-7 k) 0 ≡ from (start-7 k) 7
+unfolding first causes
+passed-7 k = passed-6 (k .before .before) ∙ rw (k .if7 .left)
 
 -- the first that isn't gives its cause
 returns : tie.Need-returns
@@ -83,7 +90,7 @@ returns-5 c = sym (ap because (passed-4 (c .before .before)) ∙ rw (c .if5 .tak
 
 returns-6 : tie.Need-returns-6
 unfolding first causes
-returns-6 c = sym (ap because (passed-5 (c .before .before)) ∙ rw (c .if6 .taken))
+returns-6 c = sym (ap because (passed-5 (c .before .before)) ∙ rw (sym (c .before .takes-zero .ensures) ∙ not-true _ (c .if6 .taken)))
 
 returns-7 : tie.Need-returns-7
 unfolding first causes
@@ -91,8 +98,12 @@ returns-7 c = sym (ap because (passed-6 (c .before .before)) ∙ rw (c .if7 .tak
 
 returns-8 : tie.Need-returns-8
 unfolding first causes
-returns-8 c = sym (ap because (passed-6 (c .before .before)) ∙ rw (c .if7 .left))
+returns-8 c = sym (ap because (passed-7 (c .before .before)) ∙ rw (c .if8 .taken))
+
+returns-9 : tie.Need-returns-9
+unfolding first causes
+returns-9 c = sym (ap because (passed-7 (c .before .before)) ∙ rw (c .if8 .left))
 
 pub first-cause-spec : {M : Type 1} → statement M
 first-cause-spec = tie.close (tie.spec
-    (λ c κs. search needs) returns returns-2 returns-3 returns-4 returns-5 returns-6 returns-7 returns-8)
+    (λ c κs. search needs) returns returns-2 returns-3 returns-4 returns-5 (λ c κs. search needs) returns-6 returns-7 returns-8 returns-9)

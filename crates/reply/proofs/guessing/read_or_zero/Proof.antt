@@ -10,7 +10,7 @@ returns c = rw (c .enum-told .given .1)
 
 returns-2 : tie.Need-returns-2
 unfolding readOrZero
-returns-2 c = rw (c .before .read .given .1)
+returns-2 c = rw (c .before .before .read .given .1)
 
 returns-3 : tie.Need-returns-3
 unfolding readOrZero
