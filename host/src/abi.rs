@@ -54,6 +54,7 @@ pub mod raw {
             kind: u8,
             number: i32,
             decimals: u32,
+            minus_zero: u32,
             out: *mut u8,
             out_length: usize,
         ) -> i64;
@@ -69,6 +70,7 @@ pub mod raw {
             kind: u8,
             number: i32,
             decimals: u32,
+            minus_zero: u32,
             out: *mut u8,
             out_length: usize,
         ) -> i64;
@@ -160,6 +162,7 @@ pub fn normal_form(words: &[u16], out: &mut [u16]) -> i64 {
 }
 
 /// One message. Minus the number, or the count of bytes written.
+#[allow(clippy::too_many_arguments)]
 #[inline]
 pub fn write(
     letter: u8,
@@ -168,11 +171,22 @@ pub fn write(
     kind: u8,
     number: i32,
     decimals: u32,
+    minus_zero: u32,
     out: &mut [u8],
 ) -> i64 {
     // SAFETY: as above.
     unsafe {
-        raw::kav_write(letter, address, identifier, kind, number, decimals, out.as_mut_ptr(), out.len())
+        raw::kav_write(
+            letter,
+            address,
+            identifier,
+            kind,
+            number,
+            decimals,
+            minus_zero,
+            out.as_mut_ptr(),
+            out.len(),
+        )
     }
 }
 
@@ -194,11 +208,23 @@ pub fn line(
     kind: u8,
     number: i32,
     decimals: u32,
+    minus_zero: u32,
     out: &mut [u8],
 ) -> i64 {
     // SAFETY: as above.
     unsafe {
-        raw::kav_line(at, letter, address, identifier, kind, number, decimals, out.as_mut_ptr(), out.len())
+        raw::kav_line(
+            at,
+            letter,
+            address,
+            identifier,
+            kind,
+            number,
+            decimals,
+            minus_zero,
+            out.as_mut_ptr(),
+            out.len(),
+        )
     }
 }
 

@@ -1,4 +1,4 @@
-//! An independent implementation of document 01 (`papers/01-scope.md`) and of requests 1, 2 and 4 of
+//! An independent implementation of document 01 (`papers/01-scope.md`) and of requests 1, 2, 4 and 5 of
 //! document 02 in plain Rust, written from the papers alone, and what compares it with the proved archive.
 //!
 //! - [`reference`]: the papers' rules.

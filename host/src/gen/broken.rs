@@ -5,8 +5,12 @@ use super::{identifiers, row, rows_of, value, Rng, Row, World, SCAN};
 /// Makes a card's row unsound before its offer, its scan and the sheets are looked at.
 pub fn break_card(rng: &mut Rng, card: &mut Vec<i32>) {
     let length = card[2] as usize;
-    match rng.below(10) {
-        0 => card.truncate(rng.below(22)),
+    match rng.below(11) {
+        // Sixteen and 22 numbers were rows before requests 1 and 5.
+        0 => {
+            let any = rng.below(23);
+            card.truncate(rng.pick(&[any, 16, 22]));
+        }
         1 => card.push(rng.wild()),
         2 => card[0] = rng.pick(&[0, 75, 77, 0xCC, 0xD2, 76 + 256, -76, i32::MIN, i32::MAX]),
         3 => card[1] = rng.pick(&[0, 100, -1, -7, 256, 263, 355, 65_543, i32::MIN, i32::MAX]),
@@ -23,8 +27,14 @@ pub fn break_card(rng: &mut Rng, card: &mut Vec<i32>) {
         // A count that the characters don't bear out.
         8 if length > 1 && card[2 + length] != 0 => card[2] -= 1,
         8 | 9 if length == 0 => card[2] = rng.within(1, 10),
+        10 => card[22] = wrong_revision(rng),
         _ => card[0] = 0,
     }
+}
+
+/// A number that is no revision.
+pub fn wrong_revision(rng: &mut Rng) -> i32 {
+    rng.pick(&[0, 3, -1, -2, 4, 255, 256, 257, 258, 65_537, i32::MIN, i32::MAX])
 }
 
 /// Three numbers that are no offer, or one for identifier 0, near those of a sound one.

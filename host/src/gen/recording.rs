@@ -152,6 +152,40 @@ pub fn scanning(rng: &mut Rng, world: &World, length: usize) -> Vec<u16> {
     words
 }
 
+/// The places of the code in what looks like the data of a Type 3: `#`, four digits, a code and `*`.
+fn codes(words: &[u16]) -> Vec<usize> {
+    let is = |word: u16, from: &[u8]| from.iter().any(|&character| word == u16::from(on_line(character)));
+    let data = |part: &[u16]| {
+        is(part[0], b"#")
+            && part[1..5].iter().all(|&word| is(word, b"0123456789"))
+            && is(part[5], b"01235678")
+            && is(part[6], b"*")
+    };
+    words.windows(7).enumerate().filter(|(_, part)| data(part)).map(|(at, _)| at + 5).collect()
+}
+
+/// Makes the number of every other Type 3 a zero, half of these minus zero. The decimals stay.
+pub fn zeros(rng: &mut Rng, words: &mut [u16]) {
+    for at in codes(words) {
+        if rng.percent(50) {
+            let decimals = ((words[at] as u8 & 0x7F) - b'0') % 5;
+            let code = decimals + if rng.percent(50) { 5 } else { 0 };
+            words[at - 4..at].fill(u16::from(on_line(b'0')));
+            words[at] = u16::from(on_line(b'0' + code));
+        }
+    }
+}
+
+/// Makes every minus zero a zero. The decimals stay.
+pub fn without_minus_zeros(words: &mut [u16]) {
+    for at in codes(words) {
+        let code = words[at] as u8 & 0x7F;
+        if code > b'4' && words[at - 4..at].iter().all(|&word| word == u16::from(on_line(b'0'))) {
+            words[at] = u16::from(on_line(code - 5));
+        }
+    }
+}
+
 /// Random words with no thought behind them, each 0 to 256, from few characters or from all.
 pub fn babble(rng: &mut Rng, length: usize) -> Vec<u16> {
     let few = rng.percent(70);

@@ -105,7 +105,7 @@ pub fn rows_of(sheet: &[i32]) -> impl Iterator<Item = Row> + '_ {
 }
 
 impl World {
-    /// With so many rows in the sheets, no message open, no offer and no scan.
+    /// With so many rows in the sheets, no message open, no offer, no scan and the first revision.
     pub fn with_rows(rng: &mut Rng, bench: usize, maker: usize) -> World {
         let (mut bench, mut maker) = (sheet(rng, bench), sheet(rng, maker));
         free_scan(&mut bench);
@@ -115,7 +115,8 @@ impl World {
         for row in &rows {
             values[row[0] as usize] = value(rng, row);
         }
-        let mut card = vec![0; 22];
+        let mut card = vec![0; 23];
+        card[22] = 1;
         card[0] = i32::from(rng.pick(b"LR"));
         card[1] = if rng.percent(50) { rng.within(1, 9) } else { rng.within(1, 99) };
         World { card, bench, maker, values, rows }
@@ -124,6 +125,7 @@ impl World {
     pub fn new(rng: &mut Rng) -> World {
         let (bench, maker) = (some_rows(rng), some_rows(rng));
         let mut world = World::with_rows(rng, bench, maker);
+        world.revise(rng);
         let named = rng.pick(&[0, 4, 5, 5]);
         world.scan(rng, named);
         if rng.percent(40) {
@@ -133,6 +135,11 @@ impl World {
             world.open(rng);
         }
         world
+    }
+
+    /// Gives the card one of the two revisions.
+    pub fn revise(&mut self, rng: &mut Rng) {
+        self.card[22] = rng.pick(&[1, 2]);
     }
 
     /// Gives an identifier other than `]` these rows in place of its own, and a value that the row which holds

@@ -10,8 +10,8 @@ use super::scan::{Scan, MOST_NAMED};
 use super::{listing, normal, reply, sheet, Refusal};
 
 /// Letter, address, count of open characters, ten characters, offer or none, its identifier, its
-/// value, count of the scan's identifiers, five identifiers.
-pub const CARD: usize = 22;
+/// value, count of the scan's identifiers, five identifiers, revision.
+pub const CARD: usize = 23;
 /// Letter, address, identifier, outcome, count of numbers, five pairs of a number and its decimals.
 pub const ANSWER: usize = 15;
 /// Code and position.
@@ -39,8 +39,8 @@ fn counted(result: Result<usize, Refusal>) -> i64 {
     result.map_or_else(refused, |count| count as i64)
 }
 
-/// The card that a row of 22 is. `None`, where its length or its numbers 0 to 12 are no card's, is number 1
-/// before the sheets; whether the card is sound is asked later, and of its offer and scan after the sheets.
+/// The card that a row of 23 is. `None`, where its length or its numbers 0 to 12 and 22 are no card's, is number
+/// 1 before the sheets; whether the card is sound is asked later, and of its offer and scan after the sheets.
 pub fn card_of(row: &[i32]) -> Option<Card> {
     let row: &[i32; CARD] = row.try_into().ok()?;
     let code = |number: i32| u8::try_from(number).ok();
@@ -54,7 +54,7 @@ pub fn card_of(row: &[i32]) -> Option<Card> {
         _ => Some(NO_OFFER),
     };
     let mut identifiers = [NO_IDENTIFIER; MOST_NAMED];
-    for (identifier, &number) in identifiers.iter_mut().zip(&row[17..]) {
+    for (identifier, &number) in identifiers.iter_mut().zip(&row[17..22]) {
         *identifier = code(number).unwrap_or(NO_IDENTIFIER);
     }
     Some(Card {
@@ -63,10 +63,11 @@ pub fn card_of(row: &[i32]) -> Option<Card> {
         open: Open { length: code(row[2])?, characters },
         offer,
         scan: Scan { count: code(row[16]).unwrap_or(NO_COUNT), identifiers },
+        revision: code(row[22])?,
     })
 }
 
-/// The row of 22 that a card is.
+/// The row of 23 that a card is.
 pub fn row_of(card: &Card) -> [i32; CARD] {
     let mut row = [0; CARD];
     row[0] = i32::from(card.letter);
@@ -79,9 +80,10 @@ pub fn row_of(card: &Card) -> [i32; CARD] {
         row[13..16].copy_from_slice(&[1, i32::from(offer.identifier), offer.value]);
     }
     row[16] = i32::from(card.scan.count);
-    for (number, &identifier) in row[17..].iter_mut().zip(&card.scan.identifiers) {
+    for (number, &identifier) in row[17..22].iter_mut().zip(&card.scan.identifiers) {
         *number = i32::from(identifier);
     }
+    row[22] = i32::from(card.revision);
     row
 }
 
@@ -149,7 +151,8 @@ pub fn normal_form(words: &[u16], out: &mut [u16]) -> i64 {
     counted(normal::normal_form(words, out))
 }
 
-/// The message with this body's first character. `None` where there is none such: number 7.
+/// The message with this body's first character. `None` where there is none such: number 7. Number, decimals and
+/// minus zero are looked at for Type 3 only.
 #[inline]
 fn message_of(
     letter: u8,
@@ -158,13 +161,22 @@ fn message_of(
     kind: u8,
     number: i32,
     decimals: u32,
+    minus_zero: u32,
 ) -> Option<Message> {
     let kind = match kind {
         b'?' if identifier == b'?' => Kind::Status,
         b'?' => Kind::Query,
         b'+' => Kind::Up,
         b'-' => Kind::Down,
-        b'#' => Kind::Set(Data { number, decimals: u8::try_from(decimals).ok()? }),
+        b'#' => {
+            let data = Data { number, decimals: u8::try_from(decimals).ok()? };
+            let minus_zero = match minus_zero {
+                0 => false,
+                1 => true,
+                _ => return None,
+            };
+            Kind::Set { data, minus_zero }
+        }
         b'I' => Kind::Store,
         _ => return None,
     };
@@ -172,6 +184,7 @@ fn message_of(
 }
 
 /// Minus the number, or the count of bytes written.
+#[allow(clippy::too_many_arguments)]
 pub fn write(
     letter: u8,
     address: u32,
@@ -179,10 +192,11 @@ pub fn write(
     kind: u8,
     number: i32,
     decimals: u32,
+    minus_zero: u32,
     out: &mut [u8],
 ) -> i64 {
     counted(
-        message_of(letter, address, identifier, kind, number, decimals)
+        message_of(letter, address, identifier, kind, number, decimals, minus_zero)
             .ok_or(Refusal::Message)
             .and_then(|message| message::write(&message, out)),
     )
@@ -222,10 +236,11 @@ pub fn line(
     kind: u8,
     number: i32,
     decimals: u32,
+    minus_zero: u32,
     out: &mut [u8],
 ) -> i64 {
     counted(
-        message_of(letter, address, identifier, kind, number, decimals)
+        message_of(letter, address, identifier, kind, number, decimals, minus_zero)
             .ok_or(Refusal::Message)
             .and_then(|message| listing::line(at, &message, out)),
     )

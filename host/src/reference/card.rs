@@ -25,6 +25,8 @@ pub struct Card {
     pub open: Open,
     pub offer: Option<Offer>,
     pub scan: Scan,
+    /// 1 or 2.
+    pub revision: u8,
 }
 
 /// Bytes written, and why there was `N` or silence.
@@ -61,9 +63,18 @@ enum Reply {
 }
 
 impl Card {
-    /// Letter, address and open message; offer and scan are judged apart, after the sheets.
+    /// Letter, address, open message and revision; offer and scan are judged apart, after the sheets.
     pub fn is_sound_without_sheets(&self) -> bool {
-        is_letter(self.letter) && matches!(self.address, 1..=99) && self.open.is_sound()
+        is_letter(self.letter)
+            && matches!(self.address, 1..=99)
+            && self.open.is_sound()
+            && matches!(self.revision, 1 | 2)
+    }
+
+    /// Request 5: "the first treats both alike, the second answers a Type 3 of minus zero with `N`".
+    #[inline]
+    pub(super) fn refuses_minus_zero(&self) -> bool {
+        self.revision == 2
     }
 
     /// What a Type 3 could leave: a multiple of the step, in range, of a row that can be written.
@@ -126,7 +137,8 @@ impl Card {
                     ..silence
                 })
             }),
-            Kind::Set(Data { number, decimals }) => row
+            Kind::Set { minus_zero: true, .. } if self.refuses_minus_zero() => None,
+            Kind::Set { data: Data { number, decimals }, .. } => row
                 .filter(|row| row.can_be_written() && row.decimals == decimals && row.in_range(number))
                 .map(|row| {
                     let value = row.cut(number);

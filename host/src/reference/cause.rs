@@ -1,4 +1,4 @@
-//! Request 4: why a word drew `N` or silence.
+//! Requests 4 and 5: why a word drew `N` or silence.
 //!
 //! Only the single word's call asks for it. A run never does, so what a message does is found without it.
 
@@ -18,6 +18,8 @@ pub enum Cause {
     Access,
     /// `N`: wrong decimals.
     Decimals,
+    /// `N`: minus zero, for a Type 3 at a card of revision 2.
+    MinusZero,
     /// `N`: out of range, for a Type 3.
     Range,
     /// `N`: at the limit on a step.
@@ -34,13 +36,14 @@ pub enum Cause {
 }
 
 impl Cause {
-    /// The code, and the position, 0 where there is none. Code 4 is kept free for request 5.
+    /// The code, and the position, 0 where there is none.
     pub const fn numbers(self) -> [i32; 2] {
         match self {
             Cause::None => [0, 0],
             Cause::Identifier => [1, 0],
             Cause::Access => [2, 0],
             Cause::Decimals => [3, 0],
+            Cause::MinusZero => [4, 0],
             Cause::Range => [5, 0],
             Cause::Limit => [6, 0],
             Cause::OtherCard => [7, 0],
@@ -78,21 +81,22 @@ fn of_own(card: &Card, message: &Message, rows: &Rows, values: &[i32; VALUES]) -
         },
         _ => match rows.get(identifier) {
             None => Cause::Identifier,
-            Some(row) => of_row(kind, &row, values[usize::from(identifier & 0x7F)]),
+            Some(row) => of_row(card, kind, &row, values[usize::from(identifier & 0x7F)]),
         },
     }
 }
 
 /// The cause of what a Type 2 or 3 draws for an identifier with a row and a stored value.
-fn of_row(kind: Kind, row: &Row, stored: i32) -> Cause {
+fn of_row(card: &Card, kind: Kind, row: &Row, stored: i32) -> Cause {
     match kind {
         Kind::Query if !row.can_be_read() => Cause::Access,
         Kind::Up | Kind::Down if row.access != READ_AND_WRITE => Cause::Access,
         Kind::Up if !row.in_range(stored + row.step) => Cause::Limit,
         Kind::Down if !row.in_range(stored - row.step) => Cause::Limit,
-        Kind::Set(_) if !row.can_be_written() => Cause::Access,
-        Kind::Set(Data { decimals, .. }) if decimals != row.decimals => Cause::Decimals,
-        Kind::Set(Data { number, .. }) if !row.in_range(number) => Cause::Range,
+        Kind::Set { .. } if !row.can_be_written() => Cause::Access,
+        Kind::Set { data: Data { decimals, .. }, .. } if decimals != row.decimals => Cause::Decimals,
+        Kind::Set { minus_zero: true, .. } if card.refuses_minus_zero() => Cause::MinusZero,
+        Kind::Set { data: Data { number, .. }, .. } if !row.in_range(number) => Cause::Range,
         _ => Cause::None,
     }
 }

@@ -36,7 +36,9 @@ impl Line {
         line.put(message.kind.sign());
         line.put(b' ');
         match message.kind {
-            Kind::Set(data) => spell_data(data).into_iter().for_each(|digit| line.put(digit)),
+            Kind::Set { data, minus_zero } => {
+                spell_data(data, minus_zero).into_iter().for_each(|digit| line.put(digit));
+            }
             _ => line.put(b'-'),
         }
         line.put(b'\n');

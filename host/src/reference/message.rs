@@ -28,8 +28,8 @@ pub enum Kind {
     Up,
     /// Type 2, `-`.
     Down,
-    /// Type 3, `#` and five digits.
-    Set(Data),
+    /// Type 3, `#` and five digits. Minus zero is number 0 with the sign kept beside it.
+    Set { data: Data, minus_zero: bool },
     /// Type 4, `I`.
     Store,
 }
@@ -42,7 +42,7 @@ impl Kind {
             Kind::Status | Kind::Query => b'?',
             Kind::Up => b'+',
             Kind::Down => b'-',
-            Kind::Set(_) => b'#',
+            Kind::Set { .. } => b'#',
             Kind::Store => b'I',
         }
     }
@@ -92,15 +92,19 @@ pub fn parse(characters: &[u8]) -> Option<Message> {
         [b'+'] => Kind::Up,
         [b'-'] => Kind::Down,
         [b'I'] => Kind::Store,
-        [b'#', ref digits @ ..] => Kind::Set(parse_data(digits.try_into().ok()?)?),
+        [b'#', ref digits @ ..] => {
+            let (data, minus_zero) = parse_data(digits.try_into().ok()?)?;
+            Kind::Set { data, minus_zero }
+        }
         _ => return None,
     };
     Some(Message { letter, address, identifier, kind })
 }
 
-/// Four digits and a code. Minus zero is read as zero.
+/// Four digits and a code, and whether they are minus zero. Request 5: "The digit reader must now tell minus zero
+/// from zero".
 #[inline]
-pub(super) fn parse_data(digits: &[u8; 5]) -> Option<Data> {
+pub(super) fn parse_data(digits: &[u8; 5]) -> Option<(Data, bool)> {
     let mut number = 0;
     for &digit in &digits[..4] {
         if !digit.is_ascii_digit() {
@@ -109,17 +113,17 @@ pub(super) fn parse_data(digits: &[u8; 5]) -> Option<Data> {
         number = number * 10 + i32::from(digit - b'0');
     }
     match digits[4] {
-        code @ b'0'..=b'3' => Some(Data { number, decimals: code - b'0' }),
-        code @ b'5'..=b'8' => Some(Data { number: -number, decimals: code - b'5' }),
+        code @ b'0'..=b'3' => Some((Data { number, decimals: code - b'0' }, false)),
+        code @ b'5'..=b'8' => Some((Data { number: -number, decimals: code - b'5' }, number == 0)),
         _ => None,
     }
 }
 
-/// Canonical data: the code is the decimals for zero and above, plus 5 below zero.
+/// Canonical data: the code is the decimals for zero and above, plus 5 below zero and for minus zero.
 #[inline]
-pub(super) fn spell_data(data: Data) -> [u8; 5] {
+pub(super) fn spell_data(data: Data, minus_zero: bool) -> [u8; 5] {
     let size = data.number.unsigned_abs();
-    let code = data.decimals + if data.number < 0 { 5 } else { 0 };
+    let code = data.decimals + if data.number < 0 || minus_zero { 5 } else { 0 };
     let digit = |unit: u32| b'0' + (size / unit % 10) as u8;
     [digit(1000), digit(100), digit(10), digit(1), b'0' + code]
 }
@@ -138,8 +142,8 @@ impl Message {
             && is_identifier(self.identifier)
             && (self.identifier == b'?') == (self.kind == Kind::Status)
             && match self.kind {
-                Kind::Set(Data { number, decimals }) => {
-                    (-GREATEST..=GREATEST).contains(&number) && decimals <= 3
+                Kind::Set { data: Data { number, decimals }, minus_zero } => {
+                    (-GREATEST..=GREATEST).contains(&number) && decimals <= 3 && (number == 0 || !minus_zero)
                 }
                 _ => true,
             }
@@ -149,7 +153,7 @@ impl Message {
     #[inline]
     pub fn length(&self) -> usize {
         let address = if self.address < 10 { 1 } else { 2 };
-        let data = if let Kind::Set(_) = self.kind { 5 } else { 0 };
+        let data = if let Kind::Set { .. } = self.kind { 5 } else { 0 };
         1 + address + 1 + 1 + data + 1
     }
 
@@ -158,8 +162,8 @@ impl Message {
     pub(super) fn spell(&self) -> Spelled<LONGEST> {
         let mut spelled = Spelled::head(self.letter, self.address, self.identifier);
         spelled.put(self.kind.sign());
-        if let Kind::Set(data) = self.kind {
-            spelled.put_data(data);
+        if let Kind::Set { data, minus_zero } = self.kind {
+            spelled.put_digits(spell_data(data, minus_zero));
         }
         spelled.put(b'*');
         spelled
@@ -193,10 +197,15 @@ impl<const ROOM: usize> Spelled<ROOM> {
     }
 
     #[inline]
-    pub(super) fn put_data(&mut self, data: Data) {
-        let digits = spell_data(data).map(on_line);
-        self.bytes[self.length..self.length + 5].copy_from_slice(&digits);
+    fn put_digits(&mut self, digits: [u8; 5]) {
+        self.bytes[self.length..self.length + 5].copy_from_slice(&digits.map(on_line));
         self.length += 5;
+    }
+
+    /// A number as replies have it: never minus zero.
+    #[inline]
+    pub(super) fn put_data(&mut self, data: Data) {
+        self.put_digits(spell_data(data, false));
     }
 
     #[inline]

@@ -1,4 +1,4 @@
-//! Document 01 in plain Rust, and of document 02 requests 1, 2 and 4.
+//! Document 01 in plain Rust, and of document 02 requests 1, 2, 4 and 5.
 //!
 //! The typed calls are [`card::step`], [`card::run`], [`normal::normal_form`], [`message::write`],
 //! [`reply::read`], [`listing::line`] and [`sheet::lookup`]; [`calls`] has the same over numbers and

@@ -86,9 +86,9 @@ fn parse_scan(digits: &[u8], outcome: u8) -> Option<(usize, [Data; MOST_NAMED])>
 /// Five digits as a card spells them.
 #[inline]
 fn parse_number(digits: &[u8; 5]) -> Option<Data> {
-    let data = parse_data(digits)?;
-    // Minus zero is never spelled.
-    if data.number == 0 && digits[4] >= b'5' {
+    let (data, minus_zero) = parse_data(digits)?;
+    // Request 5: "a reply with minus zero stays number 6".
+    if minus_zero {
         return None;
     }
     Some(data)

@@ -17,6 +17,7 @@ fn bench_cases() {
         ('f', "L7J#00126*", "L7J00156I*"),
         ('g', "L7m#00230*", "L7m00201N*"),
         ('h', "L7m#10031*", "L7m00201N*"),
+        // As request 5 says, for the first revision.
         ('i', "L7J#00006*", "L7J00001I*"),
         ('j', "L7mI*", ""),
         // As request 2 corrects it.
@@ -133,11 +134,11 @@ fn two_digit_addresses() {
 #[test]
 fn card_rows() {
     let scan = Scan { count: 4, identifiers: *b"MMJm~" };
-    let mut card = Card { offer: Some(Offer { identifier: b'm', value: -5 }), scan, ..CARD };
+    let mut card = Card { offer: Some(Offer { identifier: b'm', value: -5 }), scan, revision: 2, ..CARD };
     card.open.to_close(&words("R7m#00231"));
     let row = row_of(&card);
     assert_eq!(row[..16], [76, 7, 9, 82, 55, 109, 35, 48, 48, 50, 51, 49, 0, 1, 109, -5]);
-    assert_eq!(row[16..], [4, 77, 77, 74, 109, 126]);
+    assert_eq!(row[16..], [4, 77, 77, 74, 109, 126, 2]);
     assert_eq!(card_of(&row), Some(card));
     assert_eq!(card_of(&row_of(&CARD)), Some(CARD));
 }

@@ -63,7 +63,8 @@ fn well_formed() {
     for text in ["L0M?", "L00M?", "L007M?", "L123M?", "LM?", "L", "", "L7", "L7M", "7M?", "x7M?"] {
         assert_eq!(address(text), None, "{text}");
     }
-    let set = |number, decimals| Some(Kind::Set(Data { number, decimals }));
+    let data = |number, decimals, minus_zero| Some(Kind::Set { data: Data { number, decimals }, minus_zero });
+    let set = |number, decimals| data(number, decimals, false);
     for (text, expected) in [
         ("L7??", Some(Kind::Status)),
         ("L7##00231", set(23, 1)),
@@ -75,8 +76,10 @@ fn well_formed() {
         ("L7~?", Some(Kind::Query)),
         ("L7m#99993", set(9999, 3)),
         ("L7m#99998", set(-9999, 3)),
-        ("L7m#00005", set(0, 0)),
-        ("L7m#00008", set(0, 3)),
+        ("L7m#00000", set(0, 0)),
+        ("L7m#00003", set(0, 3)),
+        ("L7m#00005", data(0, 0, true)),
+        ("L7m#00008", data(0, 3, true)),
         ("L7#00231", None),
         ("L7?+", None),
         ("L7?-", None),
@@ -99,5 +102,6 @@ fn well_formed() {
         assert_eq!(kind(text), expected, "{text}");
     }
     assert_ne!(parse(b"L7m#00000"), parse(b"L7m#00001"));
-    assert_eq!(parse(b"L7m#00001"), parse(b"L7m#00006"));
+    // Request 5.
+    assert_ne!(parse(b"L7m#00001"), parse(b"L7m#00006"));
 }

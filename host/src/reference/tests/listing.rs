@@ -12,7 +12,8 @@ fn the_line() {
         (16, "L7m#00231", "16 L7 m # 00231\n"),
         (0, "R99??", "0 R99 ? ? -\n"),
         (u64::MAX, "L10m#99998", "18446744073709551615 L10 m # 99998\n"),
-        (10, "L1m#00007", "10 L1 m # 00002\n"),
+        (10, "L1m#00002", "10 L1 m # 00002\n"),
+        (10, "L1m#00007", "10 L1 m # 00007\n"),
         (1, "L1#+", "1 L1 # + -\n"),
         (1, "L1+-", "1 L1 + - -\n"),
         (1, "L1II", "1 L1 I I -\n"),
@@ -29,9 +30,9 @@ fn the_line() {
             assert!(out[got.unwrap_or(0)..].iter().all(|&byte| byte == 0xEE));
         }
     }
-    assert_eq!(calls::line(0, b'L', 0, b'm', b'?', 0, 0, &mut []), -7, "7 before 5");
-    assert_eq!(calls::line(0, b'L', 1, b'm', b'?', 0, 0, &mut []), -5);
-    assert_eq!(calls::line(0, b'L', 1, b'm', b'?', i32::MIN, u32::MAX, &mut [0; 11]), 11);
+    assert_eq!(calls::line(0, b'L', 0, b'm', b'?', 0, 0, 0, &mut []), -7, "7 before 5");
+    assert_eq!(calls::line(0, b'L', 1, b'm', b'?', 0, 0, 0, &mut []), -5);
+    assert_eq!(calls::line(0, b'L', 1, b'm', b'?', i32::MIN, u32::MAX, u32::MAX, &mut [0; 11]), 11);
 }
 
 fn listed(input: &[u8]) -> String {

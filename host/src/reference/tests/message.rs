@@ -10,7 +10,7 @@ use crate::reference::Refusal;
 #[test]
 fn the_normal_form() {
     let sent = [&[256, 0x4C][..], &words("zL07M?*R70m#00006*L7mI*L0??*L123456789abL7?")].concat();
-    let normal = words("L7M?*R70m#00001*L7mI*");
+    let normal = words("L7M?*R70m#00006*L7mI*");
     for room in 0..sent.len() + 3 {
         let mut out = vec![0xEEEE; room];
         let got = normal_form(&sent, &mut out);
@@ -35,7 +35,8 @@ fn the_normal_form() {
 #[test]
 fn the_writer() {
     let message = |letter, address, identifier, kind| Message { letter, address, identifier, kind };
-    let set = |number, decimals| Kind::Set(Data { number, decimals });
+    let set = |number, decimals| Kind::Set { data: Data { number, decimals }, minus_zero: false };
+    let minus_zero = |decimals| Kind::Set { data: Data { number: 0, decimals }, minus_zero: true };
     for (message, spelled) in [
         (message(b'L', 7, b'?', Kind::Status), "L7??*"),
         (message(b'R', 70, b'M', Kind::Query), "R70M?*"),
@@ -43,6 +44,8 @@ fn the_writer() {
         (message(b'L', 9, b'-', Kind::Down), "L9--*"),
         (message(b'L', 99, b'm', set(-9999, 3)), "L99m#99998*"),
         (message(b'L', 1, b'm', set(0, 2)), "L1m#00002*"),
+        (message(b'L', 1, b'm', minus_zero(2)), "L1m#00007*"),
+        (message(b'R', 30, b']', minus_zero(0)), "R30]#00005*"),
         (message(b'L', 1, b'I', Kind::Store), "L1II*"),
     ] {
         for room in 0..14 {
@@ -59,8 +62,8 @@ fn the_writer() {
         let heard = heard(&words(spelled));
         assert_eq!(heard, [(spelled.len() - 1, message)]);
     }
-    let call = |letter, address, identifier, kind, number, decimals, room: usize| {
-        calls::write(letter, address, identifier, kind, number, decimals, &mut vec![0; room])
+    let call = |letter, address, identifier, kind, number, decimals, minus_zero, room: usize| {
+        calls::write(letter, address, identifier, kind, number, decimals, minus_zero, &mut vec![0; room])
     };
     // 7 before 5.
     for room in [0, 20] {
@@ -84,12 +87,14 @@ fn the_writer() {
             (b'L', 7, b'm', b'#', 0, 4),
             (b'L', 7, b'm', b'#', 0, 256),
         ] {
-            assert_eq!(call(letter, address, identifier, kind, number, decimals, room), -7);
+            for minus_zero in [0, 1] {
+                assert_eq!(call(letter, address, identifier, kind, number, decimals, minus_zero, room), -7);
+            }
         }
     }
-    // Number and decimals are looked at for Type 3 only.
-    assert_eq!(call(b'L', 7, b'm', b'?', i32::MIN, u32::MAX, 5), 5);
-    assert_eq!(call(b'L', 7, b'?', b'?', i32::MAX, 256, 5), 5);
+    // Number, decimals and minus zero are looked at for Type 3 only.
+    assert_eq!(call(b'L', 7, b'm', b'?', i32::MIN, u32::MAX, u32::MAX, 5), 5);
+    assert_eq!(call(b'L', 7, b'?', b'?', i32::MAX, 256, 2, 5), 5);
 }
 
 fn answer(letter: u8, address: u8, identifier: u8, outcome: u8, data: &[(i32, u8)]) -> Answer {

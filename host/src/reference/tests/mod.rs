@@ -11,6 +11,7 @@ mod neighbours;
 mod refusals;
 mod scan;
 mod sheet;
+mod zero;
 
 use super::card::{run, step, Card, Stepped};
 use super::cause::Cause;
@@ -36,7 +37,8 @@ fn values() -> [i32; 128] {
     values
 }
 
-const CARD: Card = Card { letter: b'L', address: 7, open: Open::NONE, offer: None, scan: Scan::NONE };
+const CARD: Card =
+    Card { letter: b'L', address: 7, open: Open::NONE, offer: None, scan: Scan::NONE, revision: 1 };
 
 /// A text without the `_` that parts its groups of digits.
 fn plain(text: &str) -> String {
@@ -82,7 +84,7 @@ fn suits(cause: Cause, reply: &[u8]) -> bool {
         _ => 0..=0,
     };
     let [code, position] = cause.numbers();
-    codes.contains(&code) && code != 4 && (position != 0) == (code == 10) && matches!(position, 0..=9)
+    codes.contains(&code) && (position != 0) == (code == 10) && matches!(position, 0..=9)
 }
 
 fn from_afresh(sent: &str) -> String {

@@ -17,7 +17,7 @@ fn wrong_cards() -> Vec<Vec<i32>> {
     vec![
         vec![],
         row(&[])[..16].to_vec(),
-        row(&[])[..21].to_vec(),
+        row(&[])[..22].to_vec(),
         [row(&[]), vec![0]].concat(),
         row(&[(0, 0xCC)]),
         row(&[(0, 77)]),
@@ -38,6 +38,14 @@ fn wrong_cards() -> Vec<Vec<i32>> {
         row(&[(2, 2), (3, 76), (4, 128)]),
         row(&[(2, 2), (3, 76), (4, -1)]),
         row(&[(2, 2), (3, 76), (4, 55), (5, 1)]),
+        row(&[(22, 0)]),
+        row(&[(22, 3)]),
+        row(&[(22, -1)]),
+        row(&[(22, 256)]),
+        row(&[(22, 257)]),
+        row(&[(22, 258)]),
+        row(&[(22, i32::MIN)]),
+        row(&[(22, i32::MAX)]),
     ]
 }
 
@@ -177,7 +185,7 @@ fn order_of_refusals() {
     open.to_close(&words("L7m#00231"));
     let offer = Some(Offer { identifier: b'Z', value: 16 });
     let scan = Scan { count: 5, identifiers: *b"mJMMM" };
-    let sound = [row_of(&CARD).to_vec(), row_of(&Card { open, offer, scan, ..CARD }).to_vec()];
+    let sound = [CARD, Card { open, offer, scan, revision: 2, ..CARD }].map(|card| row_of(&card).to_vec());
     for (cards, before) in [(&sound[..], false), (&wrong_cards()[..], true)] {
         for card in cards {
             try_refusals(card, before, false);

@@ -151,13 +151,13 @@ fn what_stands_behind_the_count_is_not_looked_at() {
     ] {
         let mut card = row_of(&CARD);
         card[13..16].copy_from_slice(&[1, 109, 30]);
-        card[16..].copy_from_slice(&numbers);
+        card[16..22].copy_from_slice(&numbers);
         let (mut out, mut counts) = ([0; 40], [0; 2]);
         let given = calls::run(&mut card, &BENCH, &[], &mut values(), &sent, &mut out, &mut counts);
         assert_eq!((given, counts), (0, [5, written]), "{numbers:?}");
         // Numbers 16 to 21 stay as they were.
         assert_eq!(card[..16], row_of(&CARD)[..16]);
-        assert_eq!(card[16..], numbers);
+        assert_eq!(card[16..22], numbers);
     }
 }
 
