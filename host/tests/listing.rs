@@ -64,6 +64,9 @@ fn check_all(program: &Path) {
         } else {
             gen::recording(&mut rng, &world, length, gen::ROUGH)
         };
+        if rng.percent(30) {
+            gen::zeros(&mut rng, &mut words);
+        }
         for _ in 0..rng.pick(&[0, 0, 0, 1, 2]) {
             if !words.is_empty() {
                 let at = rng.below(words.len());

@@ -4,12 +4,14 @@ use kavtziron_host::gen::World;
 use std::fmt::{Debug, Display, Write as _};
 
 /// One call with all that is lent. The rooms are filled with a pattern; `counts` and `cause` are lengths. `Ignored` is several calls: a
-/// recording, and what the card hears in it that is for itself, with room for every reply.
+/// recording, and what the card hears in it that is for itself, with room for every reply. `Zeros` is several too: a recording and the same
+/// with each minus zero made zero, at both revisions.
 #[derive(Clone, Debug, PartialEq)]
 pub(crate) enum Case {
     Step { world: Lent, word: u16, room: usize, cause: usize },
     Run { world: Lent, words: Vec<u16>, room: usize, counts: usize },
     Ignored { world: Lent, words: Vec<u16> },
+    Zeros { world: Lent, words: Vec<u16> },
     NormalForm { words: Vec<u16>, room: usize },
     Write { asked: Asked, room: usize },
     Read { bytes: Vec<u8>, room: usize },
@@ -39,6 +41,7 @@ pub(crate) struct Asked {
     pub(crate) kind: u8,
     pub(crate) number: i32,
     pub(crate) decimals: u32,
+    pub(crate) minus_zero: u32,
 }
 
 fn joined<T: Display>(numbers: &[T]) -> String {
@@ -65,11 +68,9 @@ impl Display for Lent {
 
 impl Display for Asked {
     fn fmt(&self, f: &mut std::fmt::Formatter) -> std::fmt::Result {
-        let Asked { letter, address, identifier, kind, number, decimals } = self;
-        write!(
-            f,
-            "letter={letter} address={address} identifier={identifier} kind={kind} number={number} decimals={decimals}"
-        )
+        let Asked { letter, address, identifier, kind, number, decimals, minus_zero } = self;
+        write!(f, "letter={letter} address={address} identifier={identifier} kind={kind}")?;
+        write!(f, " number={number} decimals={decimals} minus_zero={minus_zero}")
     }
 }
 
@@ -83,6 +84,7 @@ impl Display for Case {
                 write!(f, "run {world} words={} room={room} counts={counts}", joined(words))
             }
             Case::Ignored { world, words } => write!(f, "ignored {world} words={}", joined(words)),
+            Case::Zeros { world, words } => write!(f, "zeros {world} words={}", joined(words)),
             Case::NormalForm { words, room } => {
                 write!(f, "normal_form words={} room={room}", joined(words))
             }
@@ -126,6 +128,7 @@ pub(crate) fn parse(line: &str) -> Case {
         kind: one(text("kind")),
         number: one(text("number")),
         decimals: one(text("decimals")),
+        minus_zero: one(text("minus_zero")),
     };
     let words = || list(text("words"));
     let room = || one(text("room"));
@@ -135,6 +138,7 @@ pub(crate) fn parse(line: &str) -> Case {
         }
         "run" => Case::Run { world: world(), words: words(), room: room(), counts: one(text("counts")) },
         "ignored" => Case::Ignored { world: world(), words: words() },
+        "zeros" => Case::Zeros { world: world(), words: words() },
         "normal_form" => Case::NormalForm { words: words(), room: room() },
         "write" => Case::Write { asked: asked(), room: room() },
         "read" => Case::Read { bytes: list(text("bytes")), room: room() },

@@ -1,8 +1,9 @@
 //! Both sides of a case, with guards before and behind each buffer.
 
 use crate::case::{Asked, Case, Lent};
-use crate::drawn::{suits, Cause};
+use crate::drawn::{suits, Cause, Zero};
 use crate::ignored::ignored;
+use crate::zeros::zeros;
 use kavtziron_host::abi;
 use kavtziron_host::reference::calls;
 use std::fmt::Debug;
@@ -78,17 +79,18 @@ fn same_result(archive: i64, reference: i64) -> Result<i64, String> {
     }
 }
 
-/// What both sides gave: the result, and the cause where a single word was served.
+/// What both sides gave: the result, and where a single word was served the cause, and what a Type 3 of zero drew.
 pub(crate) struct Agreed {
     pub(crate) result: i64,
     pub(crate) cause: Option<Cause>,
+    pub(crate) zero: Option<Zero>,
 }
 
 /// Both sides of one case.
 pub(crate) fn compare(case: &Case) -> Result<Agreed, String> {
     match case {
         Case::Step { world, word, room, cause } => compare_step(world, *word, *room, *cause),
-        _ => compare_other(case).map(|result| Agreed { result, cause: None }),
+        _ => compare_other(case).map(|result| Agreed { result, cause: None, zero: None }),
     }
 }
 
@@ -121,13 +123,14 @@ fn compare_step(world: &Lent, word: u16, room: usize, length: usize) -> Result<A
     same("values", &values[0], &values[1])?;
     same("out", &outs[0], &outs[1])?;
     let Ok(written) = usize::try_from(result) else {
-        return Ok(Agreed { result, cause: None });
+        return Ok(Agreed { result, cause: None, zero: None });
     };
     let cause = [causes[0].inside()[0], causes[0].inside()[1]];
-    if !suits(cause, &outs[0].inside()[..written]) {
+    let zero = Zero::of(&world.card, word, &outs[0].inside()[..written]);
+    if !suits(cause, zero, &outs[0].inside()[..written]) {
         return Err(format!("both sides gave cause {cause:?}, which the reply of {result} bytes can't have"));
     }
-    Ok(Agreed { result, cause: Some(cause) })
+    Ok(Agreed { result, cause: Some(cause), zero })
 }
 
 /// Gives the result that both gave.
@@ -165,6 +168,7 @@ fn compare_other(case: &Case) -> Result<i64, String> {
             Ok(result)
         }
         Case::Ignored { world, words } => ignored(world, words),
+        Case::Zeros { world, words } => zeros(world, words),
         Case::NormalForm { words, room } => {
             let mut outs = [Guarded::<u16>::room(*room), Guarded::room(*room)];
             let archive = abi::normal_form(words, outs[0].inside());
@@ -174,11 +178,20 @@ fn compare_other(case: &Case) -> Result<i64, String> {
             Ok(result)
         }
         Case::Write { asked, room } => {
-            let Asked { letter, address, identifier, kind, number, decimals } = *asked;
+            let Asked { letter, address, identifier, kind, number, decimals, minus_zero } = *asked;
             let mut outs = [Guarded::<u8>::room(*room), Guarded::room(*room)];
-            let archive = abi::write(letter, address, identifier, kind, number, decimals, outs[0].inside());
-            let reference =
-                calls::write(letter, address, identifier, kind, number, decimals, outs[1].inside());
+            let archive =
+                abi::write(letter, address, identifier, kind, number, decimals, minus_zero, outs[0].inside());
+            let reference = calls::write(
+                letter,
+                address,
+                identifier,
+                kind,
+                number,
+                decimals,
+                minus_zero,
+                outs[1].inside(),
+            );
             let result = same_result(archive, reference)?;
             same("out", &outs[0], &outs[1])?;
             Ok(result)
@@ -192,12 +205,13 @@ fn compare_other(case: &Case) -> Result<i64, String> {
             Ok(result)
         }
         Case::Line { at, asked, room } => {
-            let Asked { letter, address, identifier, kind, number, decimals } = *asked;
+            let Asked { letter, address, identifier, kind, number, decimals, minus_zero } = *asked;
             let mut outs = [Guarded::<u8>::room(*room), Guarded::room(*room)];
-            let archive =
-                abi::line(*at, letter, address, identifier, kind, number, decimals, outs[0].inside());
+            let (at, out) = (*at, outs[0].inside());
+            let archive = abi::line(at, letter, address, identifier, kind, number, decimals, minus_zero, out);
+            let out = outs[1].inside();
             let reference =
-                calls::line(*at, letter, address, identifier, kind, number, decimals, outs[1].inside());
+                calls::line(at, letter, address, identifier, kind, number, decimals, minus_zero, out);
             let result = same_result(archive, reference)?;
             same("out", &outs[0], &outs[1])?;
             Ok(result)

@@ -26,6 +26,10 @@ mod groups;
 mod ignored;
 #[cfg(kav_linked)]
 mod running;
+#[cfg(kav_linked)]
+mod side;
+#[cfg(kav_linked)]
+mod zeros;
 
 #[cfg(not(kav_linked))]
 fn main() {

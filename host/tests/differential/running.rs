@@ -19,7 +19,7 @@ struct Found {
     failure: Box<Failure>,
 }
 
-/// Runs a group over its numbers on all processors. Gives the count of cases, and counts the causes drawn at random.
+/// Runs a group over its numbers on all processors. Gives the count of cases, and counts what was drawn at random.
 fn run_group(at: usize, seed: u64, numbers: u64, traced: bool, drawn: &Mutex<Drawn>) -> (u64, Option<Found>) {
     const BLOCK: u64 = 64;
     let group = &GROUPS[at];
@@ -67,7 +67,8 @@ fn smaller(mut failure: Failure) -> Failure {
     }
     let try_case = |case: Case| compare(&case).err().map(|what| Failure { what, case });
     let mut length = match &failure.case {
-        Case::Run { words, .. } | Case::Ignored { words, .. } | Case::NormalForm { words, .. } => words.len(),
+        Case::Run { words, .. } | Case::NormalForm { words, .. } => words.len(),
+        Case::Ignored { words, .. } | Case::Zeros { words, .. } => words.len(),
         _ => 0,
     };
     while length > 0 {
@@ -82,6 +83,9 @@ fn smaller(mut failure: Failure) -> Failure {
                 },
                 Case::Ignored { world, words } if from + length <= words.len() => {
                     Case::Ignored { world: world.clone(), words: without(words, from, length) }
+                }
+                Case::Zeros { world, words } if from + length <= words.len() => {
+                    Case::Zeros { world: world.clone(), words: without(words, from, length) }
                 }
                 Case::NormalForm { words, room } if from + length <= words.len() => {
                     Case::NormalForm { words: without(words, from, length), room: *room }
@@ -129,7 +133,7 @@ fn replay(text: &str) -> ExitCode {
     let case = parse(&text);
     assert_eq!(parse(&case.to_string()), case);
     match compare(&case) {
-        Ok(Agreed { result, cause }) => {
+        Ok(Agreed { result, cause, .. }) => {
             println!(
                 "both sides agree: {result}{}",
                 cause.map_or(String::new(), |it| format!(", cause {it:?}"))

@@ -270,7 +270,9 @@ fn recordings() {
         assert_eq!(with_zeros(&normal(&sent)), normal(&zeros));
         assert_eq!(normal(&sent) == normal(&zeros), sent == zeros);
         assert_eq!(normal(&normal(&sent)), normal(&sent));
-        [1, 2].map(|revision| assert_eq!(play(revision, &normal(&sent)), play(revision, &sent)));
+        for revision in [1, 2] {
+            assert_eq!(play(revision, &normal(&sent)), play(revision, &sent));
+        }
     }
     assert!(minus_zeros > 2_000, "{minus_zeros}");
 }

@@ -1,4 +1,4 @@
-//! Groups of request 4: the cause that `kav_step` gives beside the reply, known ones and every two at once.
+//! Groups of requests 4 and 5: the cause that `kav_step` gives beside the reply, known ones and every two at once.
 
 use super::{Bench, Checked};
 use crate::case::{Case, Lent};
@@ -36,25 +36,34 @@ pub(super) fn close(
 const ROWS: [Row; 4] =
     [[74, 2, 1, 5, -100, 100], [77, 1, 1, 1, -1999, 9999], [90, 3, 0, 1, 15, 18], [109, 2, 1, 5, 0, 1000]];
 
-/// Messages with their cause at a card L7 with neither an offer nor a scan.
-const KNOWN: [(&str, Cause); 48] = [
+/// Messages with their cause at a card L7 of the first revision with neither an offer nor a scan.
+const KNOWN: [(&str, Cause); 57] = [
     ("L7??", [0, 0]),
     ("L07m?", [0, 0]),
     ("L7m+", [0, 0]),
     ("L7m#00231", [0, 0]),
     ("L7J#00126", [0, 0]),
     ("L7Z#00150", [0, 0]),
+    ("L7J#00001", [0, 0]),
+    ("L7J#00006", [0, 0]),
     ("L7a?", [1, 0]),
     ("L7a+", [1, 0]),
     ("L7a#99998", [1, 0]),
     ("L7]+", [1, 0]),
     ("L7]#00000", [1, 0]),
+    ("L7a#00005", [1, 0]),
+    ("L7]#00005", [1, 0]),
     ("L7Z?", [2, 0]),
     ("L7Z-", [2, 0]),
     ("L7M-", [2, 0]),
     ("L7M#99998", [2, 0]),
     ("L7m#00230", [3, 0]),
     ("L7m#99998", [3, 0]),
+    ("L7M#00006", [2, 0]),
+    ("L7J#00005", [3, 0]),
+    ("L7Z#00006", [3, 0]),
+    ("L7Z#00000", [5, 0]),
+    ("L7Z#00005", [5, 0]),
     ("L7m#10031", [5, 0]),
     ("L7J#01016", [5, 0]),
     ("L7Z#00190", [5, 0]),
@@ -88,17 +97,18 @@ const KNOWN: [(&str, Cause); 48] = [
     ("L70m#00009", [10, 9]),
 ];
 
-/// Cards with and without an offer for `m` and a scan.
-pub(crate) const CARDS: u64 = 4;
+/// Cards with and without an offer for `m` and a scan, of both revisions.
+pub(crate) const CARDS: u64 = 8;
 
 /// All of the table, and words that close nothing, at each sort of card.
 pub(crate) fn causes_known(rng: &mut Rng, number: u64, bench: &mut Bench) -> Checked {
-    let (offered, scanned) = (number & 1 == 1, number & 2 == 2);
+    let (offered, scanned, second) = (number & 1 == 1, number & 2 == 2, number & 4 == 4);
     let mut world = World::with_rows(rng, 0, 0);
     for (row, value) in ROWS.into_iter().zip([-100, 231, 15, 20]) {
         world.set_rows(row[0] as u8, Some(row), None, value);
     }
     world.card[..2].copy_from_slice(&[76, 7]);
+    world.card[22] = if second { 2 } else { 1 };
     if offered {
         world.card[13..16].copy_from_slice(&[1, 109, 30]);
     }
@@ -109,7 +119,8 @@ pub(crate) fn causes_known(rng: &mut Rng, number: u64, bench: &mut Bench) -> Che
     for (text, plain) in KNOWN {
         let cause = match text {
             "L7mI" if offered => [0, 0],
-            "L7]+" | "L7]#00000" if scanned => [2, 0],
+            "L7]+" | "L7]#00000" | "L7]#00005" if scanned => [2, 0],
+            "L7J#00006" | "L7Z#00005" if second => [4, 0],
             _ => plain,
         };
         close(rng, world.clone(), text.as_bytes(), cause, bench)?;
@@ -138,6 +149,7 @@ struct Together {
     /// `?`, `+`, `-`, `I` or `#`.
     sign: u8,
     wrong_decimals: bool,
+    minus_zero: bool,
     out_of_range: bool,
     /// Where the value is in the range of the row that decides: at its least, at its greatest, between.
     place: usize,
@@ -148,10 +160,11 @@ struct Together {
     named: usize,
     /// No offer, one for this identifier where the rows let it be, one for another.
     offer: usize,
+    revision: i32,
 }
 
-/// Access twice, bodies, places of the value, three facts, scans, offers.
-pub(crate) const TOGETHER: u64 = 4 * 4 * 8 * 3 * 2 * 2 * 2 * 3 * 3;
+/// Access twice, bodies, places of the value, three facts, scans, offers, revisions.
+pub(crate) const TOGETHER: u64 = 4 * 4 * 12 * 3 * 2 * 2 * 2 * 3 * 3 * 2;
 
 impl Together {
     fn of(number: u64) -> Together {
@@ -162,18 +175,22 @@ impl Together {
             rest /= count;
             digit as usize
         };
-        let body = digit(8);
+        let body = digit(12);
+        // Of a Type 3, from 4 on: wrong decimals, out of range, minus zero.
+        let fault = |bit: usize| body >= 4 && (body - 4) >> bit & 1 == 1;
         Together {
             access: [digit(4) as i32, digit(4) as i32],
-            sign: b"?+-I####"[body],
-            wrong_decimals: body == 5 || body == 7,
-            out_of_range: body == 6 || body == 7,
+            sign: b"?+-I########"[body],
+            wrong_decimals: fault(0),
+            out_of_range: fault(1),
+            minus_zero: fault(2),
             place: digit(3),
             for_card: digit(2) == 0,
             well_formed: digit(2) == 0,
             on_scan: digit(2) == 1,
             named: [0, 4, 5][digit(3)],
             offer: digit(3),
+            revision: 1 + digit(2) as i32,
         }
     }
 
@@ -214,6 +231,7 @@ impl Together {
             (self.access() == 0, 1),
             (!allowed.contains(&self.access()), 2),
             (self.wrong_decimals, 3),
+            (self.minus_zero && self.revision == 2, 4),
             (self.out_of_range, 5),
             (self.at_the_limit(), 6),
         ];
@@ -224,11 +242,18 @@ impl Together {
     /// message's number and decimals.
     fn put_rows(&self, rng: &mut Rng, identifier: u8, world: &mut World) -> (i32, i32) {
         let (step, decimals) = (rng.within(1, 100), rng.within(0, 3));
-        let least = rng.within(-20, 20) * step;
-        let greatest = least + rng.within(2, 6) * step;
+        let steps = rng.within(2, 6);
+        let least = match (self.minus_zero, self.out_of_range) {
+            (false, _) => rng.within(-20, 20),
+            (true, false) => -rng.within(0, steps),
+            (true, true) => rng.pick(&[1, 2, 20, -steps - 1, -steps - 2, -20]),
+        } * step;
+        let greatest = least + steps * step;
         let value = [least, greatest, least + step][self.place];
         let (below, above) = (rng.within(-9_999, least - 1), rng.within(greatest + 1, 9_999));
-        let (number, other) = if self.out_of_range {
+        let (number, other) = if self.minus_zero {
+            (0, if self.out_of_range { [0, 0] } else { [greatest + 1, 9_999] })
+        } else if self.out_of_range {
             let number = rng.pick(&[least - 1, below, greatest + 1, above]);
             (number, [number, number])
         } else {
@@ -294,6 +319,7 @@ pub(crate) fn causes_together(rng: &mut Rng, number: u64, bench: &mut Bench) -> 
     let mut world = World::with_rows(rng, 2, 2);
     world.set_rows(other, Some([i32::from(other), 2, 0, 1, 0, 9]), None, 5);
     let (number, decimals) = together.put_rows(rng, identifier, &mut world);
+    world.card[22] = together.revision;
     world.scan(rng, together.named);
     let offer = match together.offer {
         0 => [0, 0, 0],
@@ -311,7 +337,7 @@ pub(crate) fn causes_together(rng: &mut Rng, number: u64, bench: &mut Bench) -> 
     let head = text.len();
     text.extend_from_slice(&[if together.on_scan { gen::SCAN } else { identifier }, together.sign]);
     if together.sign == b'#' {
-        let minus = number < 0 || (number == 0 && rng.percent(50));
+        let minus = number < 0 || together.minus_zero;
         text.extend(format!("{:04}{}", number.abs(), decimals + if minus { 5 } else { 0 }).bytes());
     }
     let cause = if !together.well_formed {

@@ -10,6 +10,7 @@ mod run;
 mod scan;
 mod step;
 mod write;
+mod zero;
 
 use crate::case::Case;
 use crate::compare::{compare, Agreed};
@@ -24,7 +25,8 @@ use read::{read_babble, read_edits, read_every, read_random, read_scans};
 use run::{every_data, every_pair, run_in_parts, run_long, run_random, run_rooms, wrong_word_behind};
 use scan::{scan_broken, scan_messages};
 use step::{every_word, refusals, step_random, step_spoiled, step_walk};
-use write::{line_random, line_rooms, write_random, write_rooms};
+use write::{line_random, line_rooms, minus_zeros_asked, write_random, write_rooms};
+use zero::{revisions, zeros_known, zeros_run, zeros_walk};
 
 /// What a group hands its cases to.
 pub(crate) struct Bench {
@@ -66,6 +68,7 @@ impl Bench {
         }
         let agreed = compare(case).map_err(|what| Box::new(Failure { what, case: case.clone() }))?;
         agreed.cause.into_iter().for_each(|cause| self.drawn.count(cause));
+        agreed.zero.into_iter().for_each(|zero| self.drawn.count_zero(zero));
         Ok(agreed)
     }
 }
@@ -100,7 +103,7 @@ fn room_near(rng: &mut Rng, limit: usize) -> usize {
 }
 
 fn some_words(rng: &mut Rng, world: &World, length: usize) -> Vec<u16> {
-    match rng.below(7) {
+    let mut words = match rng.below(7) {
         0 => gen::babble(rng, length),
         1 => gen::recording(rng, world, length, Mixture { scans: 20, ..gen::REALISTIC }),
         2 => {
@@ -110,7 +113,11 @@ fn some_words(rng: &mut Rng, world: &World, length: usize) -> Vec<u16> {
         }
         3 => gen::recording(rng, world, length, gen::PAIR),
         _ => gen::recording(rng, world, length, gen::ROUGH),
+    };
+    if rng.percent(20) {
+        gen::zeros(rng, &mut words);
     }
+    words
 }
 
 /// A length of the cause that is served.
@@ -140,6 +147,10 @@ pub(crate) const GROUPS: &[Group] = &[
     Group { name: "step: neighbours word by word", numbers: 4_000, random: true, make: neighbours_walk },
     Group { name: "run: neighbours", numbers: 15_000, random: true, make: neighbours_run },
     Group { name: "run: neighbours ignored", numbers: 40_000, random: true, make: neighbours_ignored },
+    Group { name: "step: both zeros", numbers: zero::ZEROS, random: true, make: zeros_known },
+    Group { name: "step: both zeros word by word", numbers: 4_000, random: true, make: zeros_walk },
+    Group { name: "run and normal form: both zeros", numbers: 10_000, random: true, make: zeros_run },
+    Group { name: "step and run: revisions", numbers: 5_000, random: true, make: revisions },
     Group { name: "run and normal form: every data", numbers: 100_000, random: false, make: every_data },
     Group { name: "run and normal form: every pair", numbers: 1 << 14, random: false, make: every_pair },
     Group { name: "normal form: random", numbers: 150_000, random: true, make: normal_form_random },
@@ -149,6 +160,12 @@ pub(crate) const GROUPS: &[Group] = &[
     Group { name: "write: every room", numbers: 6_000, random: true, make: write_rooms },
     Group { name: "line: random", numbers: 250_000, random: true, make: line_random },
     Group { name: "line: every room", numbers: 3_000, random: true, make: line_rooms },
+    Group {
+        name: "write and line: minus zero",
+        numbers: write::ASKED,
+        random: false,
+        make: minus_zeros_asked,
+    },
     Group { name: "read: random", numbers: 220_000, random: true, make: read_random },
     Group { name: "read: babble", numbers: 120_000, random: true, make: read_babble },
     Group { name: "read: every data", numbers: 100_000, random: false, make: read_every },

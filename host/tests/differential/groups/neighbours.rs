@@ -38,18 +38,19 @@ fn talk(rng: &mut Rng, world: &World, length: usize) -> Vec<u16> {
     words
 }
 
-/// A body of each type for the identifier offered and for `]`, with the value offered and another.
+/// A body of each type for the identifier offered and for `]`, with the value offered, another and minus zero.
 fn bodies(rng: &mut Rng, world: &World) -> Vec<String> {
     let (identifier, value) = (world.card[14], world.card[15]);
     let decimals = world.rows.iter().find(|row| row[0] == identifier).map_or(0, |row| row[2]);
     let offered = format!("{:04}{}", value.abs(), decimals + if value < 0 { 5 } else { 0 });
     let other = format!("{:04}{}", rng.below(10_000), rng.pick(&[0, 1, 2, 3, 5, 6, 7, 8]));
+    let minus_zero = format!("0000{}", decimals + 5);
     let mut bodies = vec!["??".to_string()];
     for identifier in [identifier as u8 as char, ']'] {
         for body in ["?", "+", "-", "I"] {
             bodies.push(format!("{identifier}{body}"));
         }
-        bodies.extend([&offered, &other].map(|digits| format!("{identifier}#{digits}")));
+        bodies.extend([&offered, &other, &minus_zero].map(|digits| format!("{identifier}#{digits}")));
     }
     bodies
 }

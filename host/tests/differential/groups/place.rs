@@ -6,14 +6,15 @@ use crate::case::Case;
 use kavtziron_host::gen::{self, Rng, World};
 
 const ADDRESSES: [&str; 3] = ["7", "07", "70"];
-const BODIES: [&str; 8] = ["??", "m?", "m+", "m-", "mI", "m#00231", "]?", "]#99998"];
+const BODIES: [&str; 9] = ["??", "m?", "m+", "m-", "mI", "m#00231", "m#00001", "]?", "]#99998"];
 
 /// Letters, addresses, bodies, places and characters.
-pub(crate) const PLACES: u64 = 2 * 3 * 8 * 11 * 128;
+pub(crate) const PLACES: u64 = 2 * 3 * 9 * 11 * 128;
 
-/// A card with few rows, with and without an offer and a scan. Most often the message is for it.
+/// A card of either revision with few rows, with and without an offer and a scan. Most often the message is for it.
 fn card_for(rng: &mut Rng, letter: u8, address: i32) -> World {
     let mut world = World::with_rows(rng, 1, 1);
+    world.revise(rng);
     let row = gen::row(rng, b'm');
     let value = gen::value(rng, &row);
     world.set_rows(b'm', Some(row), None, value);
@@ -34,7 +35,7 @@ pub(crate) fn every_place(rng: &mut Rng, number: u64, bench: &mut Bench) -> Chec
     let number = number % PLACES * 7_919 % PLACES;
     let (character, rest) = ((number % 128) as u8, number as usize / 128);
     let (place, rest) = (rest % 11, rest / 11);
-    let (address, body, letter) = (ADDRESSES[rest % 3], BODIES[rest / 3 % 8], b"LR"[rest / 24]);
+    let (address, body, letter) = (ADDRESSES[rest % 3], BODIES[rest / 3 % 9], b"LR"[rest / 27]);
     let mut text = [&[letter], address.as_bytes(), body.as_bytes()].concat();
     let world = card_for(rng, letter, address.parse().unwrap());
     let check = |text: &[u8], bench: &mut Bench| {

@@ -83,6 +83,7 @@ pub(crate) fn every_data(rng: &mut Rng, number: u64, bench: &mut Bench) -> Check
     let text = format!("L7m#{number:05}*L7mI*");
     let mut world = World::with_rows(rng, 0, 0);
     world.card[..2].copy_from_slice(&[76, 7]);
+    world.revise(rng);
     world.bench = gen::row(rng, b'm').to_vec();
     world.rows = gen::rows_of(&world.bench).collect();
     if rng.percent(80) {
@@ -109,6 +110,7 @@ pub(crate) fn every_pair(rng: &mut Rng, number: u64, bench: &mut Bench) -> Check
     let room = words.len();
     bench.check(Case::NormalForm { words: words.clone(), room })?;
     let mut world = World::with_rows(rng, 40, 40);
+    world.revise(rng);
     let named = rng.pick(&[0, 4, 5]);
     world.scan(rng, named);
     world.card[..2].copy_from_slice(&[76, 7]);

@@ -19,7 +19,8 @@ pub(crate) fn scan_messages(rng: &mut Rng, _: u64, bench: &mut Bench) -> Checked
     }
     let data = format!("#{:04}{}", rng.below(10_000), rng.pick(&[0, 1, 2, 3, 5, 6, 7, 8]));
     let word = u16::from(gen::on_line(b'*'));
-    for body in ["?", "+", "-", "I", &data] {
+    let minus_zero = format!("#0000{}", rng.within(5, 8));
+    for body in ["?", "+", "-", "I", &data, &minus_zero] {
         ask(&mut world, body);
         let named = if body == "?" { world.card[16] as usize } else { 0 };
         let head = 2 + world.card[1].to_string().len();
@@ -49,7 +50,7 @@ pub(crate) fn scan_broken(rng: &mut Rng, _: u64, bench: &mut Bench) -> Checked {
     let word = u16::from(gen::on_line(rng.pick(b"*LR0")));
     let mut behind = sound.clone();
     let first = 17 + behind.card[16] as usize;
-    behind.card[first..].iter_mut().for_each(|number| *number = rng.wild());
+    behind.card[first..22].iter_mut().for_each(|number| *number = rng.wild());
     let room = 33 + rng.below(2);
     for words in [vec![], vec![word]] {
         bench.expect(Case::Run { world: behind.clone().into(), words, room, counts: 2 }, 0)?;
