@@ -7,7 +7,7 @@
  *
  * Each function gives 0 or more, or minus the number of a refusal:
  *
- *   1  the card or its scan is unsound, or its offer is one that no Type 3 could leave
+ *   1  the card, its revision or its scan is unsound, or its offer is one that no Type 3 could leave
  *   2  a sheet is unsound
  *   3  the values are not 128, or one is out of range or off its step
  *   4  a word lent is above 256
@@ -17,17 +17,21 @@
  *
  * A refused call changes nothing lent. Nothing behind the last number written changes.
  *
- * A card is 22 numbers: 0 letter ('L' or 'R', with no parity), 1 address, 2 count of open characters,
+ * A card is 23 numbers: 0 letter ('L' or 'R', with no parity), 1 address, 2 count of open characters,
  * 3 to 12 the characters (0 behind), 13 mark of an offer (1, or 0 for none), 14 its identifier, 15 its
  * value (0, 0 where there is none), 16 count of the identifiers that a query on ']' answers with (0, 4
- * or 5), 17 to 21 those identifiers in order, the same again allowed; what stands behind the count isn't
- * looked at. Another length, or numbers 0 to 12 that no sound card has, is number 1 before the sheets
- * are looked at. Numbers 13 to 21 that no sound offer or scan has (a mark of 2, an identifier of 300, a
- * mark of 0 with a value, a count of 3, a named identifier that has no row or can't be read) are number 1
- * after the sheets: with an unsound sheet it is number 2. A row for ']' in either sheet, whatever the
- * card names, is number 1 in that place too. A served call writes back numbers 2 to 15 and nothing else.
+ * or 5), 17 to 21 those identifiers in order, the same again allowed (what stands behind the count isn't
+ * looked at), 22 the revision, 1 or 2. The first treats minus zero as zero, the second answers a Type 3 of
+ * minus zero with 'N'; in all else they are alike. Another length, or numbers 0 to 12 or 22 that no sound
+ * card has, is number 1 before the sheets are looked at. Numbers 13 to 21 that no sound offer or scan has
+ * (a mark of 2, an identifier of 300, a mark of 0 with a value, a count of 3, a named identifier that has
+ * no row or can't be read) are number 1 after the sheets: with an unsound sheet it is number 2. A row for
+ * ']' in either sheet, whatever the card names, is number 1 in that place too. A served call writes back
+ * numbers 2 to 15 and nothing else.
  * A sheet is 0 to 64 rows of six numbers: identifier, access (1 read only, 2 read and write, 3 write
  * only), decimals, step, least, greatest. Values are 128 numbers, one for each character code.
+ * Minus zero is the data 0000 with code 5 to 8. It is a message of its own, apart from zero, and is written,
+ * listed and kept in the normal form as such. No card replies with it.
  */
 #ifndef KAVTZIRON_H
 #define KAVTZIRON_H
@@ -39,7 +43,7 @@
 extern "C" {
 #endif
 
-#define KAV_CARD 22   /* numbers of a card */
+#define KAV_CARD 23   /* numbers of a card */
 #define KAV_VALUES 128 /* values */
 #define KAV_ROW 6     /* numbers of a row */
 #define KAV_ANSWER 15 /* numbers of an answer */
@@ -50,13 +54,14 @@ extern "C" {
 
 /*
  * Why a word drew 'N' or silence. Codes 1 to 6 go with 'N', 7 to 10 with silence. For a message that is
- * heard, the first that holds of 7, 8, 1, 2, 3, 5, 6 is given; 9 where the word closed no message, 10 where
- * the one it closed isn't well formed. 4 is kept free.
+ * heard, the first that holds of 7, 8, 1, 2, 3, 4, 5, 6 is given; 9 where the word closed no message, 10 where
+ * the one it closed isn't well formed.
  */
 #define KAV_CAUSE_NONE 0             /* the reply is 'A' or 'I' */
 #define KAV_CAUSE_IDENTIFIER 1       /* no such identifier */
 #define KAV_CAUSE_ACCESS 2           /* access forbids it */
 #define KAV_CAUSE_DECIMALS 3         /* wrong decimals, Type 3 */
+#define KAV_CAUSE_MINUS_ZERO 4       /* minus zero, Type 3, at a card of revision 2 */
 #define KAV_CAUSE_RANGE 5            /* out of range, Type 3 */
 #define KAV_CAUSE_LIMIT 6            /* at the limit, '+' and '-' */
 #define KAV_CAUSE_OTHER_CARD 7       /* not for this card */
@@ -106,17 +111,19 @@ int64_t kav_normal_form(const uint16_t *words, size_t words_length,
 
 /*
  * Writes one message in bytes with parity. kind is the body's first character: '?', '+', '-', '#'
- * or 'I'; '?' with identifier '?' is Type 1. number and decimals count for '#' alone.
+ * or 'I'; '?' with identifier '?' is Type 1. number, decimals and minus_zero count for '#' alone.
+ * minus_zero is 1 for minus zero and otherwise 0; any other, or 1 beside a number that isn't 0, is number 7.
  * Gives the count of bytes written, at most 11. Refused with 7, 5.
  */
 int64_t kav_write(uint8_t letter, uint32_t address, uint8_t identifier, uint8_t kind,
-                  int32_t number, uint32_t decimals,
+                  int32_t number, uint32_t decimals, uint32_t minus_zero,
                   uint8_t *out, size_t out_length);
 
 /*
  * Reads one whole reply. Gives 15, with answer holding letter, address, identifier, 'A', 'I' or 'N',
  * count of numbers (0, 1, or 4 or 5 of a scan), and five pairs: a number in units of its last decimal, and
- * its decimals (0, 0 behind the count). Refused with 6, and 5 where answer is shorter than fifteen.
+ * its decimals (0, 0 behind the count). A reply with minus zero is number 6. Refused with 6, and 5 where
+ * answer is shorter than fifteen.
  */
 int64_t kav_read(const uint8_t *bytes, size_t bytes_length,
                  int32_t *answer, size_t answer_length);
@@ -128,7 +135,7 @@ int64_t kav_read(const uint8_t *bytes, size_t bytes_length,
  */
 int64_t kav_line(uint64_t at,
                  uint8_t letter, uint32_t address, uint8_t identifier, uint8_t kind,
-                 int32_t number, uint32_t decimals,
+                 int32_t number, uint32_t decimals, uint32_t minus_zero,
                  uint8_t *out, size_t out_length);
 
 /*

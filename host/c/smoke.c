@@ -68,7 +68,7 @@ int main(void) {
     const size_t bench_length = sizeof bench / sizeof *bench;
     const int32_t maker[1] = {0};
     int32_t values[KAV_VALUES] = {0};
-    int32_t card[KAV_CARD] = {'L', 7};
+    int32_t card[KAV_CARD] = {'L', 7, [22] = 1};
     uint16_t words[64];
     uint16_t normal[64];
     uint8_t out[64];
@@ -132,6 +132,8 @@ int main(void) {
         {"L7]+*", KAV_CAUSE_IDENTIFIER, 0},
         {"L7M+*", KAV_CAUSE_ACCESS, 0},
         {"L7m#00230*", KAV_CAUSE_DECIMALS, 0},
+        {"L7J#00006*", KAV_CAUSE_NONE, 0},
+        {"L7Z#00005*", KAV_CAUSE_RANGE, 0},
         {"L7m#10031*", KAV_CAUSE_RANGE, 0},
         {"L7J-*", KAV_CAUSE_LIMIT, 0},
         {"L8m?*", KAV_CAUSE_OTHER_CARD, 0},
@@ -145,7 +147,7 @@ int main(void) {
     memcpy(at_limit, values, sizeof values);
     at_limit['J'] = -100;
     for (size_t which = 0; which < sizeof causes / sizeof *causes; which++) {
-        int32_t fresh[KAV_CARD] = {'L', 7};
+        int32_t fresh[KAV_CARD] = {'L', 7, [22] = 1};
         length = words_of(causes[which].sent, words);
         for (size_t at = 0; at < length; at++) {
             replied = kav_step(fresh, KAV_CARD, bench, bench_length, maker, 0, at_limit, KAV_VALUES,
@@ -154,13 +156,55 @@ int main(void) {
         }
         check_cause(causes[which].sent, cause, causes[which].code, causes[which].position);
     }
-    int32_t scanning[KAV_CARD] = {'L', 7, 4, 'L', '7', ']', '+'};
+    int32_t scanning[KAV_CARD] = {'L', 7, 4, 'L', '7', ']', '+', [22] = 1};
     const int32_t four[] = {4, 'm', 'm', 'M', 'J'};
     memcpy(scanning + 16, four, sizeof four);
     replied = kav_step(scanning, KAV_CARD, bench, bench_length, maker, 0, values, KAV_VALUES,
                        0xAA, out, sizeof out, cause, KAV_CAUSE);
     check_text("a scan's '+'", out, replied, "L7]00000N*");
     check_cause("a scan's '+'", cause, KAV_CAUSE_ACCESS, 0);
+
+    /* Minus zero at both revisions, word by word: bench case i, out of range, wrong decimals, and zero. */
+    const struct {
+        const char *sent, *replied;
+        int32_t revision, code;
+    } zeros[] = {
+        {"L7J#00006*", "L7J00001I*", 1, KAV_CAUSE_NONE},
+        {"L7J#00006*", "L7J00001N*", 2, KAV_CAUSE_MINUS_ZERO},
+        {"L7J#00001*", "L7J00001I*", 2, KAV_CAUSE_NONE},
+        {"L7Z#00005*", "L7Z00000N*", 1, KAV_CAUSE_RANGE},
+        {"L7Z#00005*", "L7Z00000N*", 2, KAV_CAUSE_MINUS_ZERO},
+        {"L7J#00005*", "L7J00001N*", 2, KAV_CAUSE_DECIMALS},
+        {"L7M#00006*", "L7M02311N*", 2, KAV_CAUSE_ACCESS},
+        {"L7a#00005*", "L7a00000N*", 2, KAV_CAUSE_IDENTIFIER},
+        {"L7]#00005*", "L7]00000N*", 2, KAV_CAUSE_IDENTIFIER},
+    };
+    for (size_t which = 0; which < sizeof zeros / sizeof *zeros; which++) {
+        int32_t fresh[KAV_CARD] = {'L', 7, [22] = zeros[which].revision};
+        length = words_of(zeros[which].sent, words);
+        for (size_t at = 0; at < length; at++) {
+            replied = kav_step(fresh, KAV_CARD, bench, bench_length, maker, 0, values, KAV_VALUES,
+                               words[at], out, sizeof out, cause, KAV_CAUSE);
+        }
+        check_text(zeros[which].sent, out, replied, zeros[which].replied);
+        check_cause(zeros[which].sent, cause, zeros[which].code, 0);
+        check("the revision", fresh[22], zeros[which].revision);
+    }
+
+    /* Another revision, or a row of 22 numbers: before the sheets. */
+    const int32_t no_revisions[] = {0, 3, -1, 256, 257, INT32_MIN, INT32_MAX};
+    for (size_t which = 0; which < sizeof no_revisions / sizeof *no_revisions; which++) {
+        int32_t fresh[KAV_CARD] = {'L', 7, [22] = no_revisions[which]};
+        check("step with no revision",
+              kav_step(fresh, KAV_CARD, bench, bench_length, maker, 0, values, KAV_VALUES,
+                       KAV_SILENCE, out, sizeof out, cause, KAV_CAUSE), -1);
+        check("run with no revision and a part of a sheet",
+              kav_run(fresh, KAV_CARD, bench, bench_length - 1, maker, 0, values, KAV_VALUES,
+                      words, length, out, sizeof out, counts, 2), -1);
+    }
+    check("step with 22 numbers",
+          kav_step(card, 22, bench, bench_length - 1, maker, 0, values, KAV_VALUES,
+                   KAV_SILENCE, out, sizeof out, cause, KAV_CAUSE), -1);
 
     /* Numbers that are no offer are judged after the sheets. */
     card[13] = 2;
@@ -193,18 +237,26 @@ int main(void) {
                    KAV_SILENCE, out, sizeof out, cause, KAV_CAUSE), -1);
     card[16] = 0;
 
-    length = words_of("xL07M?*L7J#00006*L7", words);
+    length = words_of("xL07M?*L7J#00006*L07J#00001*L7", words);
     int64_t count = kav_normal_form(words, length, normal, 64);
     for (int64_t at = 0; at < count; at++) {
         out[at] = (uint8_t)normal[at];
     }
-    check_text("normal form", out, count, "L7M?*L7J#00001*");
-    check("normal form with little room", kav_normal_form(words, length, normal, 14), -5);
+    check_text("normal form", out, count, "L7M?*L7J#00006*L7J#00001*");
+    check("normal form with little room", kav_normal_form(words, length, normal, 24), -5);
 
-    count = kav_write('R', 70, 'm', '#', -15, 1, out, sizeof out);
+    count = kav_write('R', 70, 'm', '#', -15, 1, 0, out, sizeof out);
     check_text("write", out, count, "R70m#00156*");
-    check("write with no address", kav_write('R', 0, 'm', '#', -15, 1, out, sizeof out), -7);
-    check("write with little room", kav_write('R', 70, 'm', '#', -15, 1, out, 10), -5);
+    check("write with no address", kav_write('R', 0, 'm', '#', -15, 1, 0, out, sizeof out), -7);
+    check("write with little room", kav_write('R', 70, 'm', '#', -15, 1, 0, out, 10), -5);
+    count = kav_write('R', 70, 'm', '#', 0, 1, 1, out, sizeof out);
+    check_text("write of minus zero", out, count, "R70m#00006*");
+    count = kav_write('R', 70, 'm', '#', 0, 1, 0, out, sizeof out);
+    check_text("write of zero", out, count, "R70m#00001*");
+    check("write of minus zero beside 5", kav_write('R', 70, 'm', '#', 5, 1, 1, out, sizeof out), -7);
+    check("write with a minus zero of 2", kav_write('R', 70, 'm', '#', 0, 1, 2, out, sizeof out), -7);
+    count = kav_write('R', 70, 'm', '?', 5, 1, 2, out, sizeof out);
+    check_text("write of a query, which has no number", out, count, "R70m?*");
 
     int32_t answer[KAV_ANSWER];
     uint8_t reply[KAV_REPLY];
@@ -218,12 +270,19 @@ int main(void) {
     check("answer", memcmp(answer, wanted, sizeof wanted), 0);
     check("read of a part", kav_read(reply, length - 1, answer, KAV_ANSWER), -6);
     check("read with little room", kav_read(reply, length, answer, KAV_ANSWER - 1), -5);
+    length = bytes_of("L7J00006I*", reply);
+    check("read of minus zero", kav_read(reply, length, answer, KAV_ANSWER), -6);
 
     const char *line = "16 L7 m # 00231\n";
-    count = kav_line(16, 'L', 7, 'm', '#', 23, 1, out, sizeof out);
+    count = kav_line(16, 'L', 7, 'm', '#', 23, 1, 0, out, sizeof out);
     check("line", count, (int64_t)strlen(line));
     check("its bytes", memcmp(out, line, strlen(line)), 0);
-    check("line of no message", kav_line(16, 'L', 7, '?', '+', 0, 0, out, sizeof out), -7);
+    const char *line_of_minus_zero = "16 L7 m # 00006\n";
+    count = kav_line(16, 'L', 7, 'm', '#', 0, 1, 1, out, sizeof out);
+    check("line of minus zero", count, (int64_t)strlen(line_of_minus_zero));
+    check("its bytes", memcmp(out, line_of_minus_zero, strlen(line_of_minus_zero)), 0);
+    check("line of minus zero beside -5", kav_line(16, 'L', 7, 'm', '#', -5, 1, 1, out, sizeof out), -7);
+    check("line of no message", kav_line(16, 'L', 7, '?', '+', 0, 0, 0, out, sizeof out), -7);
 
     int32_t row[KAV_ROW];
     check("lookup", kav_lookup(bench, bench_length, maker, 0, 'Z', row, KAV_ROW), KAV_ROW);

@@ -11,8 +11,8 @@ use kavtziron_host::gen::{self, Rng, World};
 /// Ranges with zero between, at an end and alone, and without it.
 const RANGES: [(i32, i32); 6] = [(-100, 100), (0, 100), (-100, 0), (0, 0), (5, 100), (-100, -5)];
 
-/// Access, decimals of the row and of the message, which zero, revisions, ranges, offers.
-pub(crate) const ZEROS: u64 = 4 * 4 * 4 * 2 * 2 * 6 * 3;
+/// Access, decimals of the row and of the message, most often the same, which zero, revisions, ranges, offers.
+pub(crate) const ZEROS: u64 = 4 * 4 * 7 * 2 * 2 * 6 * 3;
 
 /// A Type 3 of either zero for each sort of row, with each count of decimals. The cause is known.
 pub(crate) fn zeros_known(rng: &mut Rng, number: u64, bench: &mut Bench) -> Checked {
@@ -24,7 +24,8 @@ pub(crate) fn zeros_known(rng: &mut Rng, number: u64, bench: &mut Bench) -> Chec
         digit as i32
     };
     let (minus, revision) = (digit(2) == 1, 1 + digit(2));
-    let (access, decimals, said) = (digit(4), digit(4), digit(4));
+    let (access, decimals) = (digit(4), digit(4));
+    let said = decimals ^ [0, 0, 0, 0, 1, 2, 3][digit(7) as usize];
     let ((least, greatest), offer) = (RANGES[digit(6) as usize], digit(3));
 
     let mut world = World::with_rows(rng, 2, 2);
