@@ -158,7 +158,7 @@ impl Message {
     }
 
     /// The bytes of a heard message's normal form.
-    #[inline]
+    #[inline(always)]
     pub(super) fn spell(&self) -> Spelled<LONGEST> {
         let mut spelled = Spelled::head(self.letter, self.address, self.identifier);
         spelled.put(self.kind.sign());
