@@ -44,6 +44,22 @@ def damage():
     words += line('L007M?*L0??*L7m#00304*L7?I*')                # not well formed
     return words
 
+def zeros():
+    """Zero and minus zero (0000 with code 5 to 8), which are two messages since request 5."""
+    words = []
+    for code in '01235678':                                     # each count of decimals
+        words += line('L7m#0000%s*' % code)
+    for to in ('L7J', 'L07Z', 'L7M', 'L7a', 'L7]', 'L8m', 'R12J'): # other rows, no row, `]`, other cards
+        words += line(to + '#00000*' + to + '#00005*' + to + '#00001*' + to + '#00006*')
+    words += line('L7J#00006*L7JI*L7J?*')                       # revision 1 stores it as zero, revision 2 refuses it
+    words += line('L7m#00301*L7m#00006*L7mI*')                  # and the offer before it is gone
+    words += line('L7J#00016*L7J#00011*')                       # the numbers next to zero
+    words += line('L7m#00004*L7m#00009*')                       # not well formed
+    words += line('L7m#0000') + [SILENCE] + line('6*')          # a silence inside
+    spoiled = line('L7m#00006*'); spoiled[8] ^= 0x80            # its code in bad parity
+    words += spoiled + line('L7m#00006*')
+    return words
+
 def session(n, seed=7):
     """A master that polls, changes and stores, the card's replies between, and now and then damage."""
     r = random.Random(seed)
@@ -77,6 +93,7 @@ def main():
     files['bench-cases.words'] = [w for v in CASES.values() for m in v for w in line(m)]
     files['paper-example.words'] = line('xL07M?*L7m#00231*')
     files['damage.words'] = damage()
+    files['zeros.words'] = zeros()
     files['session.words'] = session(6000)
     for name, words in files.items():
         with open(os.path.join(here, name), 'wb') as f:

@@ -8,7 +8,7 @@ sys.dont_write_bytecode = True
 here = os.path.dirname(os.path.abspath(__file__))
 root = os.path.dirname(os.path.dirname(here))
 sys.path.insert(0, os.path.join(root, 'samples'))
-from make import line, pack, session, damage, SILENCE
+from make import line, pack, session, damage, zeros, SILENCE
 
 WELL_FORMED = re.compile(r'([LR])(0?[1-9]|[1-9][0-9])(?:(\?)(\?)|([!-)+-/:->@-~])(\?|\+|-|I|#([0-9]{4})([0-35-8])))')
 
@@ -30,7 +30,7 @@ def expected(data):
                 letter, address, _, status, name, body, digits, code = m.groups()
                 name, body, data_column = (name, body[0], '-') if name else ('?', '?', '-')
                 if digits:
-                    data_column = digits + (str(int(code) % 5) if digits == '0000' else code)
+                    data_column = digits + code
                 out.append('%d %s%d %s %s %s' % (at, letter, int(address), name, body, data_column))
                 count += 1
         else:
@@ -52,6 +52,7 @@ cases = {
     'bad_at_the_boundary': pack(quiet(4096) + [257]),
     'open_at_the_end': pack(line('L7??*L7M')),
     'damage': pack(damage()),
+    'zeros': pack(zeros()),
     # a message of eleven words across the end of the first buffer, at each of its places
     **{'across_%02d' % k: pack(quiet(4096 - k) + line('L07m#00231*') + line('L7??*')) for k in range(12)},
     'one_buffer': pack(quiet(4091) + line('L7??*')),
