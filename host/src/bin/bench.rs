@@ -32,8 +32,8 @@ mod linked {
     const LENGTHS: [usize; 3] = [10_000, 100_000, 1_000_000];
     const SHEETS: [usize; 2] = [64, 4];
 
-    /// Everything that a measurement lends, made once. The cards have the first revision and no recording has minus zero, so that the
-    /// figures can be set beside those from before there were two.
+    /// Everything that a measurement lends, made once. The cards have the first revision, which answers both zeros alike, so that words and
+    /// replies are those from before there were two.
     struct Input {
         world: World,
         words: Vec<u16>,
@@ -53,8 +53,7 @@ mod linked {
         fn new(length: usize, rows: usize) -> Input {
             let mut rng = Rng::new(SEED ^ (length as u64) << 8 ^ rows as u64);
             let world = World::with_rows(&mut rng, rows, rows);
-            let mut words = without_scans(gen::recording(&mut rng, &world, length, gen::REALISTIC));
-            gen::without_minus_zeros(&mut words);
+            let words = without_scans(gen::recording(&mut rng, &world, length, gen::REALISTIC));
             let codes = gen::identifiers();
             let mut bytes = 0;
             let mut asked = Vec::new();
@@ -90,8 +89,7 @@ mod linked {
         let mut world = World::with_rows(rng, rows, rows);
         world.scan(rng, 5);
         assert_eq!(world.card[16], 5, "no row can be read");
-        let mut words = gen::scanning(rng, &world, length);
-        gen::without_minus_zeros(&mut words);
+        let words = gen::scanning(rng, &world, length);
         (world, words)
     }
 

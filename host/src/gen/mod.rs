@@ -13,8 +13,6 @@ pub use broken::{
 pub use message::{
     message, neighbours_head, neighbours_message, on_line, reply, scan_message, scan_reply, words_of,
 };
-pub use recording::{
-    babble, edit, recording, scanning, without_minus_zeros, zeros, Mixture, PAIR, REALISTIC, ROUGH,
-};
+pub use recording::{babble, edit, recording, scanning, zeros, Mixture, PAIR, REALISTIC, ROUGH};
 pub use rng::Rng;
 pub use world::{identifiers, row, rows_of, sheet, value, Row, World, SCAN};

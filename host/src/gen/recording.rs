@@ -176,16 +176,6 @@ pub fn zeros(rng: &mut Rng, words: &mut [u16]) {
     }
 }
 
-/// Makes every minus zero a zero. The decimals stay.
-pub fn without_minus_zeros(words: &mut [u16]) {
-    for at in codes(words) {
-        let code = words[at] as u8 & 0x7F;
-        if code > b'4' && words[at - 4..at].iter().all(|&word| word == u16::from(on_line(b'0'))) {
-            words[at] = u16::from(on_line(code - 5));
-        }
-    }
-}
-
 /// Random words with no thought behind them, each 0 to 256, from few characters or from all.
 pub fn babble(rng: &mut Rng, length: usize) -> Vec<u16> {
     let few = rng.percent(70);
