@@ -97,29 +97,37 @@ fn takes_zero(setup: Setup, body: Body) -> bool
 fn first_cause(setup: Setup, message: Message, standing: Standing) -> Cause
     ensures { λ r. ⌜ whyOf r ≡ because (first (causes setup message standing)) ⌝ }
 {
-    if !crate::is_for(setup, message) {
+    let ours = crate::is_for(setup, message);
+    let body = message.body;
+    let taken = takes_zero(setup, body);
+    let offered = standing.offered;
+    let exists = standing.exists;
+    let allowed = standing.allowed;
+    let matching = standing.matching;
+    let within = standing.within;
+    let reachable = standing.reachable;
+    if !ours {
         return Cause::NotForThisCard;
     }
-    if !standing.offered {
+    if !offered {
         return Cause::NoOffer;
     }
-    if !standing.exists {
+    if !exists {
         return Cause::NoSuchIdentifier;
     }
-    if !standing.allowed {
+    if !allowed {
         return Cause::Access;
     }
-    if !standing.matching {
+    if !matching {
         return Cause::WrongDecimals;
     }
-    let body = message.body;
-    if !takes_zero(setup, body) {
+    if !taken {
         return Cause::MinusZero;
     }
-    if !standing.within {
+    if !within {
         return Cause::OutOfRange;
     }
-    if !standing.reachable {
+    if !reachable {
         return Cause::AtLimit;
     }
     Cause::None
