@@ -93,14 +93,13 @@ fn set_of(
         return Parsed::Unheard;
     }
     let decimals = decimals as u8;
-    let value = Decimal { number, decimals };
     let minus_zero = minus_zero == 1;
-    heard(
-        letter,
-        address,
-        identifier,
-        Body::Set(Numeral { value, minus_zero }),
-    )
+    let x = Numeral {
+        number,
+        decimals,
+        minus_zero,
+    };
+    heard(letter, address, identifier, Body::Set(x))
 }
 
 fn body_of(

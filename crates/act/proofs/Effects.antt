@@ -198,10 +198,10 @@ module _ (bench maker values : List ℤ) (v : soundValues bench maker values ≡
     good-set : (c : Setup) (e : Entry) (x : Numeral) → entry ≡ e → Good bench maker (setTo c m e value x)
     unfolding setTo offers
     good-set c (Found r) x f =
-        choice (Good bench maker) (isWritable r && eqb (x .value .decimals) (r .decimals) && takesZero c (body.Set x) && inRange (r .least) (x .value .number) (r .greatest))
+        choice (Good bench maker) (isWritable r && eqb (x .decimals) (r .decimals) && takesZero c (body.Set x) && inRange (r .least) (x .number) (r .greatest))
         (λ t.
-        let z = cut (x .value .number) (r .step) in
-        let h = in-row r f Offered z (fits-parts r z (cut-fits r (row-sound r f) (x .value .number) (search ands)) .0) in
+        let z = cut (x .number) (r .step) in
+        let h = in-row r f Offered z (fits-parts r z (cut-fits r (row-sound r f) (x .number) (search ands)) .0) in
         record { stores = λ i y e. kept e; answers = λ a e. said-is (answerTo m Offered (Number (withDecimals z (r .decimals)))) a e h })
         (λ t. good-declines (Found r) f)
     good-set c Missing x f = good-declines Missing f

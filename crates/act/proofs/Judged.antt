@@ -64,10 +64,10 @@ module _ (c : Setup) (o : Offer) (m : Message) where
     set-is (Found r) x q =
         by-test (isWritable r)
         (λ t.
-        by-test (eqb (x .value .decimals) (r .decimals))
+        by-test (eqb (x .decimals) (r .decimals))
         (λ u.
         by-test (takesZero c (body.Set x))
-        (λ z. by-test (inRange (r .least) (x .value .number) (r .greatest)) (λ w. rw (its, t, u, q, z, w)) (λ w. rw (its, t, u, q, z, w)))
+        (λ z. by-test (inRange (r .least) (x .number) (r .greatest)) (λ w. rw (its, t, u, q, z, w)) (λ w. rw (its, t, u, q, z, w)))
         (λ z. rw (its, t, u, q, z)))
         (λ u. rw (its, t, u)))
         (λ t. rw (its, t))

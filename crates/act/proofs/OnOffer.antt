@@ -46,8 +46,8 @@ pub record Leaves (bench maker : List ℤ) (m : Message) (i : ℕ) (z : ℤ) : T
   pub its : m .identifier ≡ i
   pub found : entryIn bench maker (m .identifier) ≡ Found row
   pub writable : isWritable row ≡ true
-  pub in-range : inRange (row .least) (number .value .number) (row .greatest) ≡ true
-  pub value : cut (number .value .number) (row .step) ≡ z
+  pub in-range : inRange (row .least) (number .number) (row .greatest) ≡ true
+  pub value : cut (number .number) (row .step) ≡ z
 
 -- ---- whatever the message, by whether it is for this card
 
@@ -93,7 +93,7 @@ module _ (bench maker : List ℤ) (m : Message) where
   left-set : (c : Setup) (e : Entry) (v : ℤ) (x : Numeral) → entryIn bench maker (m .identifier) ≡ e → m .body ≡ body.Set x → Left (setTo c m e v x)
   unfolding setTo offers
   left-set c (Found r) v x f b =
-      choice Left (isWritable r && eqb (x .value .decimals) (r .decimals) && takesZero c (body.Set x) && inRange (r .least) (x .value .number) (r .greatest))
+      choice Left (isWritable r && eqb (x .decimals) (r .decimals) && takesZero c (body.Set x) && inRange (r .least) (x .number) (r .greatest))
       (λ t i z e. record {
         row = r;
         number = x;

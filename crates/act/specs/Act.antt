@@ -82,7 +82,7 @@ granted m r o v body.Status = says m Accepted Empty
 granted m r o v body.Query = says m Accepted (Number (withDecimals v (r .decimals)))
 granted m r o v body.Up = accepts m (raised v (r .step)) (r .decimals)
 granted m r o v body.Down = accepts m (lowered v (r .step)) (r .decimals)
-granted m r o v (body.Set x) = offers m r (x .value .number)
+granted m r o v (body.Set x) = offers m r (x .number)
 granted m r o v body.Store = accepts m (valueOn o) (r .decimals)
 
 -- ---- the scan. Document 02, ticket 1: "A card names five identifiers for it, in order, repeats allowed; a 20-digit form with four"

@@ -84,7 +84,7 @@ standing there r o v i body.Query = stands true there (isReadable r) true true t
 standing there r o v i body.Up = movesTo there r (raised v (r .step))
 standing there r o v i body.Down = movesTo there r (lowered v (r .step))
 standing there r o v i (body.Set x) =
-    stands true there (isWritable r) (eqb (x .value .decimals) (r .decimals)) (inRange (r .least) (x .value .number) (r .greatest)) true
+    stands true there (isWritable r) (eqb (x .decimals) (r .decimals)) (inRange (r .least) (x .number) (r .greatest)) true
 standing there r o v i body.Store = stands (isOffered o i) true true true true true
 
 -- by its entry in the sheets

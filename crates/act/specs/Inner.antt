@@ -53,8 +53,8 @@ down m Missing v = declines m Missing v
 -- ticket 5: "the second answers a Type 3 of minus zero with `N`"
 unfoldable pub setTo : Setup → Message → Entry → ℤ → Numeral → Effect
 setTo c m (Found r) v x =
-    cond (isWritable r && eqb (x .value .decimals) (r .decimals) && takesZero c (body.Set x) && inRange (r .least) (x .value .number) (r .greatest))
-    (offers m r (x .value .number)) (declines m (Found r) v)
+    cond (isWritable r && eqb (x .decimals) (r .decimals) && takesZero c (body.Set x) && inRange (r .least) (x .number) (r .greatest))
+    (offers m r (x .number)) (declines m (Found r) v)
 setTo c m Missing v x = declines m Missing v
 
 -- Type 4: "if the offer is for this identifier, it is stored and replied with `A`. If not, silence."

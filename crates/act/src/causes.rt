@@ -79,7 +79,7 @@ pub fn cause_position(cause: Cause) -> u8
     }
 }
 
-// Only a card of revision 2 declines minus zero.
+// Only a Type 3 can be of minus zero.
 fn takes_zero(setup: Setup, body: Body) -> bool
     ensures { λ r. ⌜ r ≡ takesZero setup body ⌝ }
 {
@@ -88,7 +88,7 @@ fn takes_zero(setup: Setup, body: Body) -> bool
         Body::Query => true,
         Body::Up => true,
         Body::Down => true,
-        Body::Set(x) => !(x.minus_zero & (setup.revision == 2)),
+        Body::Set(x) => crate::takes(setup, x),
         Body::Store => true,
     }
 }
@@ -230,8 +230,8 @@ fn on_entry(entry: Entry, offer: Offer, value: i32, identifier: u8, body: Body) 
         Body::Set(x) => asks(
             entry,
             sheet::is_writable(row),
-            x.value.decimals == row.decimals,
-            within_row(row, x.value.number),
+            x.decimals == row.decimals,
+            within_row(row, x.number),
             true,
         ),
         Body::Store => without_number(is_offered(offer, identifier), true, true),

@@ -4,7 +4,7 @@ ghost use lib.IntN.{pos};
 ghost use lib.ListN.{getD};
 ghost use Rattle.number.specs.Data.{withDecimals};
 ghost use Rattle.sheet.specs.Inner.{entryAt};
-ghost use Rattle.act.specs.Cause.{rowOrZeros, isFor};
+ghost use Rattle.act.specs.Cause.{rowOrZeros, isFor, takesZero};
 ghost use Rattle.act.specs.Act.{noEffect, silent, answerTo, says, accepts, shownBy, offers, valueOf, scanOf};
 ghost use Rattle.act.specs.Inner.{declines, query, moves, up, down, setTo, store, serve, declinesScan, serveScan, onScan, onRow};
 use message::Body;
@@ -210,6 +210,13 @@ fn offers(message: Message, row: Row, number: i32) -> Effect
     Effect { said, offer, store }
 }
 
+// Whether the card takes this number, minus zero or not.
+pub(crate) fn takes(setup: Setup, x: Numeral) -> bool
+    ensures { λ r. ⌜ r ≡ takesZero setup (Body.Set x) ⌝ }
+{
+    !(x.minus_zero & (setup.revision == 2))
+}
+
 // Type 3: the range is tested before the cut.
 fn set_to(setup: Setup, message: Message, entry: Entry, value: i32, x: Numeral) -> Effect
     ensures { λ r. ⌜ r ≡ setTo setup message entry value x ⌝ }
@@ -217,13 +224,12 @@ fn set_to(setup: Setup, message: Message, entry: Entry, value: i32, x: Numeral) 
     let Entry::Found(row) = entry else {
         return declines(message, entry, value);
     };
-    let asked = x.value;
     if sheet::is_writable(row)
-        & (asked.decimals == row.decimals)
-        & !(x.minus_zero & (setup.revision == 2))
-        & number::in_range(row.least, asked.number, row.greatest)
+        & (x.decimals == row.decimals)
+        & takes(setup, x)
+        & number::in_range(row.least, x.number, row.greatest)
     {
-        offers(message, row, asked.number)
+        offers(message, row, x.number)
     } else {
         declines(message, entry, value)
     }

@@ -100,7 +100,7 @@ module _ (bench maker : List ℤ) where
   leaves-sound m i z l =
       let r = l .row in
       let f : entryIn bench maker i ≡ Found r = ap (entryIn bench maker) (sym (l .its)) ∙ l .found in
-      let c = cut-fits r (entry-sound bench maker i r f) (l .number .value .number) (l .in-range) in
+      let c = cut-fits r (entry-sound bench maker i r f) (l .number .number) (l .in-range) in
       parts-offer i z (record { allowed = record { row = r; found = f; fits = rw (l .value) at c }; writable = l .writable })
 
   act-sound : (s : Setup) (o : Offer) (values : List ℤ) (m : Message) → soundOffer bench maker o ≡ true → soundOffer bench maker (act bench maker s o values m .offer) ≡ true

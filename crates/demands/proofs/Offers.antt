@@ -13,7 +13,7 @@ use Rattle.refusal.proofs.Logic.{and-left, and-right}
 use Rattle.wire.specs.Word.{withParity}
 use Rattle.number.specs.declared.Numeral.{Numeral}
 use Rattle.number.specs.Number.{inRange, cut}
-use Rattle.number.specs.Data.{withDecimals, numeral}
+use Rattle.number.specs.Data.{withDecimals, numeral, asDecimal}
 use Rattle.number.proofs.Cuts.{cut-is, cut-multiple, cut-below, cut-greatest, cut-own}
 use Rattle.number.proofs.Reading.{within-fits, numeral-fits}
 use Rattle.message.specs.declared.Body.the-variants.{Set}
@@ -78,9 +78,9 @@ never-up = record {
       let q = call-leaves bench maker c values w m h t out k i z g l in
       let same-row : q .row ≡ r = cc (q .found) in
       let same-number : q .number ≡ x = cc (q .type-3) in
-      subst (λ (y : Numeral). NotAbove (y .value .number) z r) same-number
-      (subst (λ (y : Row). NotAbove (q .number .value .number) z y) same-row
-      (subst (λ (y : ℤ). NotAbove (q .number .value .number) y (q .row)) (q .value) (cut-not-above (q .row) (q .number .value .number) (entry-sound bench maker i (q .row) (q .found)) (q .in-range))));
+      subst (λ (y : Numeral). NotAbove (y .number) z r) same-number
+      (subst (λ (y : Row). NotAbove (q .number .number) z y) same-row
+      (subst (λ (y : ℤ). NotAbove (q .number .number) y (q .row)) (q .value) (cut-not-above (q .row) (q .number .number) (entry-sound bench maker i (q .row) (q .found)) (q .in-range))));
 }
 
 -- ---- sound offers
@@ -112,7 +112,7 @@ module _ (bench maker : List ℤ) (i : ℕ) (z : ℤ) where
         is-letter = letter-is;
         is-address = address-is 1 (lit≤ tt) (lit≤ tt);
         is-identifier = c .0;
-        fits-body = parts-body i (Set x) (c .1, numeral-fits (x .value) (within-fits (x .value) b (s .decimals-most)));
+        fits-body = parts-body i (Set x) (c .1, numeral-fits (asDecimal x) (within-fits (asDecimal x) b (s .decimals-most)));
       }) in
       let values = leastValues bench maker in
       let fit = least-sound bench maker (and-left (soundSheet bench) (soundSheet maker) sheets) (and-right (soundSheet bench) (soundSheet maker) sheets) in

@@ -120,7 +120,7 @@ pub record NotAbove (n z : ℤ) (r : Row) : Type 0 where
 -- for a message for this card; one for another leaves the offer that was there, whatever its number
 pub record NeverUp : Type 0 where
   pub never-up : (bench maker : List ℤ) (c : Card) (values : List ℤ) (w : ℕ) (out : List ℕ) (k : ℕ) (m : Message) (x : Numeral) (z : ℤ) (r : Row) → bytesOf (its bench maker c values w out .outcome) ≡ gave k
-      → hear (c .pending) w .message ≡ Heard m → isFor (c .setup) m ≡ true → m .body ≡ Set x → entryIn bench maker (m .identifier) ≡ Found r → its bench maker c values w out .card .offer ≡ Held (m .identifier) z → NotAbove (x .value .number) z r
+      → hear (c .pending) w .message ≡ Heard m → isFor (c .setup) m ≡ true → m .body ≡ Set x → entryIn bench maker (m .identifier) ≡ Found r → its bench maker c values w out .card .offer ≡ Held (m .identifier) z → NotAbove (x .number) z r
 
 -- ---- words
 

@@ -8,7 +8,7 @@ use native.Mathlib.Omega.{arith}
 use borrow.Author.Tests.{leb-true, le-leb, lt-leb, eqb-true, ne-eqb}
 use lib.Dec.{eqb}
 use Rattle.refusal.proofs.Logic.{ands, and-both, not-is, is-not, or-cases}
-use Rattle.number.specs.Data.{isDigit, fitsNumeral}
+use Rattle.number.specs.Data.{isDigit, asDecimal, fitsNumeral}
 use Rattle.number.proofs.Digits.{digit-ends}
 use Rattle.number.proofs.Reading.{fits-value, numeral-fits}
 use Rattle.message.specs.declared.Body.{Body}
@@ -65,7 +65,7 @@ unsigned-fits i Status p = p
 unsigned-fits i Query p = p
 unsigned-fits i Up p = p
 unsigned-fits i Down p = p
-unsigned-fits i (Set x) p = (p .0, numeral-fits (x .value) (fits-value x (p .1)))
+unsigned-fits i (Set x) p = (p .0, numeral-fits (asDecimal x) (fits-value x (p .1)))
 unsigned-fits i Store p = p
 
 pub unsigned-message : (m : Message) → isMessage m ≡ true → isMessage (unsignedZero m) ≡ true

@@ -5,7 +5,7 @@ use Prim.Native.Char.{code}
 use mathlib.Core.List.{List}
 use lib.Dec.{leb, eqb}
 use Rattle.refusal.specs.Lists.{every}
-use Rattle.number.specs.Data.{isDigit, isMinusZero, numeral, fitsNumeral}
+use Rattle.number.specs.Data.{isDigit, isMinusZero, numeral, asDecimal, fitsNumeral}
 use Rattle.message.specs.declared.Body.{Body}
 use Rattle.message.specs.declared.Body.the-variants.{Status, Query, Up, Down, Set, Store}
 use Rattle.message.specs.declared.Message.{Message}
@@ -51,7 +51,7 @@ unsignedBody Status = Status
 unsignedBody Query = Query
 unsignedBody Up = Up
 unsignedBody Down = Down
-unsignedBody (Set x) = Set (numeral (x .value))
+unsignedBody (Set x) = Set (numeral (asDecimal x))
 unsignedBody Store = Store
 
 abbrev pub unsignedZero : Message → Message

@@ -9,11 +9,11 @@ use native.Mathlib.Omega.{arith}
 use borrow.Author.Tests.{leb-true, le-leb}
 use lib.Dec.{leb}
 use lib.IntN.{ℤ, pos, negsuc}
-use lib.ListN.{length}
-use Rattle.refusal.proofs.Logic.{and-left, and-right, and-both, choice}
+use lib.ListN.{length, set}
+use Rattle.refusal.proofs.Logic.{and-left, and-right, and-both}
 use Rattle.number.specs.declared.Decimal.{Decimal}
 use Rattle.number.specs.declared.Numeral.{Numeral}
-use Rattle.number.specs.Data.{digit, isDigit, digitOf, isMinusZero, codeOf, fiveDigits, spellData, spellNumeral}
+use Rattle.number.specs.Data.{digit, isDigit, digitOf, codeOf, fiveDigits, spellData, spellNumeral}
 
 pub digit-ends : (c : ℕ) → isDigit c ≡ true → (48 ≤ c) × (c ≤ 57)
 unfolding isDigit
@@ -69,11 +69,16 @@ data-length x = refl
 -- and so of a number as a message has it
 pub numeral-digits : (x : Numeral) → AllDigits (spellNumeral x)
 unfolding spellNumeral
-numeral-digits x = choice AllDigits (isMinusZero x) (λ t. five-digits 0 (x .value .decimals + 5)) (λ t. data-digits (x .value))
+numeral-digits x = five-digits _ _
 
 pub numeral-length : (x : Numeral) → length (spellNumeral x) ≡ 5
 unfolding spellNumeral fiveDigits
-numeral-length x = choice (λ (cs : List ℕ). length cs ≡ 5) (isMinusZero x) (λ t. refl) (λ t. data-length (x .value))
+numeral-length x = refl
+
+-- with another code
+pub other-code : (m k j : ℕ) → set (fiveDigits m k) 4 (digit (j % 10)) ≡ fiveDigits m j
+unfolding fiveDigits
+other-code m k j = refl
 
 -- only the last four digits of the number are written, and the last digit of the code
 pub four-written : (m k : ℕ) → fiveDigits (m % 10000) k ≡ fiveDigits m k

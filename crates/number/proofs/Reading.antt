@@ -17,7 +17,7 @@ use Rattle.number.specs.declared.Data.{Data}
 use Rattle.number.specs.declared.Decimal.{Decimal}
 use Rattle.number.specs.declared.Numeral.{Numeral}
 use Rattle.number.specs.declared.Data.the-variants.{Partial, Number, Invalid}
-use Rattle.number.specs.Data.{digit, isDigit, digitOf, withDecimals, fits, withZero, isMinusZero, numeral, minusZero, fitsNumeral, codeOf, fiveDigits, spellData, spellNumeral, negative, decode, start, readNext, readFrom, readData}
+use Rattle.number.specs.Data.{digit, isDigit, digitOf, withDecimals, fits, withZero, isMinusZero, asDecimal, numeral, minusZero, fitsNumeral, codeOf, fiveDigits, spellData, spellNumeral, negative, decode, start, readNext, readFrom, readData}
 use Rattle.number.proofs.Signed.{natAbs-minus}
 use Rattle.number.proofs.Digits.{digit-is, digit-back, digit-below, digit-again, AllDigits}
 
@@ -35,7 +35,7 @@ unfolding fits
 within-fits x h k = and-both (le-leb (natAbs (x .number)) 9999 h) (le-leb (x .decimals) 3 k)
 
 -- a number that is no minus zero, and minus zero
-pub fits-value : (x : Numeral) → fitsNumeral x ≡ true → fits (x .value) ≡ true
+pub fits-value : (x : Numeral) → fitsNumeral x ≡ true → fits (asDecimal x) ≡ true
 unfolding fitsNumeral
 fits-value x e = search ands
 
@@ -130,24 +130,26 @@ only-zero (negsuc n) e = absurd (never n (eqb-true (suc n) 0 e))
 
 signed : (v : Decimal) (z : Bool) → fitsNumeral (withZero v z) ≡ true
     → readData (spellNumeral (withZero v z)) ≡ Number (withZero v z)
-unfolding spellNumeral fitsNumeral
+unfolding spellNumeral spellData fitsNumeral
 signed v false e = read-number v (search ands)
 signed v true e =
     let zero-is : v .number ≡ pos 0 = only-zero (v .number) (search ands) in
     let w = fits-within v (search ands) in
-    read-code 0 (v .decimals + 5) (lit≤ tt) (omega (arith, w .1)) ∙ decode-neg 0 (v .decimals) (w .1)
+    ap (λ (n : ℤ). readData (fiveDigits (natAbs n) (v .decimals + 5))) zero-is
+    ∙ read-code 0 (v .decimals + 5) (lit≤ tt) (omega (arith, w .1))
+    ∙ decode-neg 0 (v .decimals) (w .1)
     ∙ ap (λ (n : ℤ). Number (withZero (withDecimals n (v .decimals)) true)) (sym zero-is)
 
 -- reading what is written gives what was written, minus zero too
 pub read-written : (x : Numeral) → fitsNumeral x ≡ true → readData (spellNumeral x) ≡ Number x
-read-written x e = signed (x .value) (isMinusZero x) e
+read-written x e = signed (asDecimal x) (isMinusZero x) e
 
 -- two numbers that are written alike are the same, decimals too
 pub spell-injective : (x y : Decimal) → fits x ≡ true → fits y ≡ true → spellData x ≡ spellData y → x ≡ y
 spell-injective x y p q h =
     let same : Number (numeral x) ≡ Number (numeral y) = sym (read-number x p) ∙ ap readData h ∙ read-number y q in
     let both : numeral x ≡ numeral y = cc in
-    ap (λ (z : Numeral). z .value) both
+    ap asDecimal both
 
 -- ---- what has been read
 

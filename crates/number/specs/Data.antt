@@ -29,10 +29,14 @@ fits x = leb (natAbs (x .number)) 9999 && leb (x .decimals) 3
 
 -- a number as a message has it; document 02, ticket 5: "everything that reads numbers must say which it had", minus zero or zero
 abbrev pub withZero : Decimal → Bool → Numeral
-withZero x z = record { value = x; «minus_zero» = z }
+withZero x z = record { number = x .number; decimals = x .decimals; «minus_zero» = z }
 
 abbrev pub isMinusZero : Numeral → Bool
 isMinusZero x = x .«minus_zero»
+
+-- its number; both zeros are the same one
+abbrev pub asDecimal : Numeral → Decimal
+asDecimal x = withDecimals (x .number) (x .decimals)
 
 -- a number that is no minus zero, and minus zero with so many decimals
 abbrev pub numeral : Decimal → Numeral
@@ -43,7 +47,7 @@ minusZero d = withZero (withDecimals (pos 0) d) true
 
 -- what five digits can say: only zero is minus zero
 unfoldable pub fitsNumeral : Numeral → Bool
-fitsNumeral x = fits (x .value) && (not (isMinusZero x) || eqb (natAbs (x .value .number)) 0)
+fitsNumeral x = fits (asDecimal x) && (not (isMinusZero x) || eqb (natAbs (x .number)) 0)
 
 -- ---- written
 
@@ -62,7 +66,7 @@ spellData x = fiveDigits (natAbs (x .number)) (codeOf (x .number) (x .decimals))
 
 -- and as a message has it: minus zero has the code of a number below zero
 unfoldable pub spellNumeral : Numeral → List ℕ
-spellNumeral x = cond (isMinusZero x) (fiveDigits 0 (x .value .decimals + 5)) (spellData (x .value))
+spellNumeral x = fiveDigits (natAbs (x .number)) (cond (isMinusZero x) (x .decimals + 5) (codeOf (x .number) (x .decimals)))
 
 -- ---- read, one character after the other
 

@@ -6,7 +6,7 @@ ghost use Prim.Native.Nat.{_%_, _≤_};
 ghost use lib.IntN.{pos, natAbs};
 ghost use lib.Signed.{leZ};
 ghost use Rattle.number.specs.Number.{inRange, isMultiple, cutDown, cut, raised, lowered};
-ghost use Rattle.number.specs.Data.{isDigit, fits, fitsNumeral, codeOf, fiveDigits, spellData, spellNumeral, decode, readNext, readData};
+ghost use Rattle.number.specs.Data.{isDigit, asDecimal, fits, fitsNumeral, codeOf, fiveDigits, spellData, spellNumeral, decode, readNext, readData};
 ghost use Rattle.number.specs.Inner.{characters};
 
 // A number in units of its last decimal, and how many decimals it has.
@@ -17,7 +17,8 @@ pub struct Decimal {
 
 // A number as a message has it: the sign of zero, which a number has not, stands beside it.
 pub struct Numeral {
-    pub value: Decimal,
+    pub number: i32,
+    pub decimals: u8,
     pub minus_zero: bool,
 }
 
@@ -111,12 +112,24 @@ pub fn fits(x: Decimal) -> bool
     (magnitude(x.number) <= 9999) & (x.decimals <= 3)
 }
 
-// The same of a number as a message has it: only zero is minus zero.
+// The number of both zeros is the same.
+pub fn as_decimal(x: Numeral) -> Decimal
+    ensures { λ r. ⌜ r ≡ asDecimal x ⌝ }
+{
+    let number = x.number;
+    let decimals = x.decimals;
+    Decimal { number, decimals }
+}
+
+// What five digits can say of a number as a message has it: only zero is minus zero.
 pub fn fits_numeral(x: Numeral) -> bool
     ensures { λ r. ⌜ r ≡ fitsNumeral x ⌝ }
 {
-    let value = x.value;
-    fits(value) & (!x.minus_zero | (magnitude(value.number) == 0))
+    if x.minus_zero {
+        (magnitude(x.number) == 0) & (x.decimals <= 3)
+    } else {
+        fits(as_decimal(x))
+    }
 }
 
 // The decimals, and 5 more below zero.
@@ -182,12 +195,12 @@ pub fn write_data(x: Decimal) -> [u8; 5]
 pub fn write_numeral(x: Numeral) -> [u8; 5]
     ensures { λ r. ⌜ r ≡ spellNumeral x ⌝ }
 {
-    let value = x.value;
+    let mut digits = write_data(as_decimal(x));
     if x.minus_zero {
-        five_digits(0, (value.decimals as u32 + 5) % 10)
-    } else {
-        write_data(value)
+        let k = x.decimals as u32 + 5;
+        digits[4] = 48 + (k % 10) as u8;
     }
+    digits
 }
 
 // A number of four digits with the digit of its code.
@@ -198,15 +211,21 @@ fn decoded(m: u32, k: u8) -> Data
     if k <= 3 {
         let number = m as i32;
         let decimals = k;
-        let value = Decimal { number, decimals };
         let minus_zero = false;
-        Data::Number(Numeral { value, minus_zero })
+        Data::Number(Numeral {
+            number,
+            decimals,
+            minus_zero,
+        })
     } else if (5 <= k) & (k <= 8) {
         let number = -(m as i32);
         let decimals = k - 5;
-        let value = Decimal { number, decimals };
         let minus_zero = m == 0;
-        Data::Number(Numeral { value, minus_zero })
+        Data::Number(Numeral {
+            number,
+            decimals,
+            minus_zero,
+        })
     } else {
         Data::Invalid
     }

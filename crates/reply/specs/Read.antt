@@ -15,7 +15,7 @@ use Rattle.wire.specs.Word.{travelling}
 use Rattle.number.specs.declared.Decimal.{Decimal}
 use Rattle.number.specs.declared.Data.{Data}
 use Rattle.number.specs.declared.Data.the-variants as read
-use Rattle.number.specs.Data.{isDigit, digitOf, withDecimals, readData}
+use Rattle.number.specs.Data.{isDigit, digitOf, withDecimals, asDecimal, readData}
 use Rattle.message.specs.Message.{question}
 use Rattle.reply.specs.declared.Mark.{Mark}
 use Rattle.reply.specs.declared.Mark.the-variants as mark
@@ -37,7 +37,7 @@ guessMark c = cond (eqb c (code "A")) mark.Accepted (cond (eqb c (code "I")) mar
 -- a number as it was read; 0 where it was none, and zero where it was minus zero, which are then spelled otherwise
 unfoldable pub readOrZero : Data → Decimal
 readOrZero (read.Partial k n) = withDecimals (pos 0) 0
-readOrZero (read.Number x) = x .value
+readOrZero (read.Number x) = asDecimal x
 readOrZero read.Invalid = withDecimals (pos 0) 0
 
 -- the number that stands from a place on

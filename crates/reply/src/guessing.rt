@@ -44,7 +44,7 @@ fn read_or_zero(read: Data) -> Decimal
             number: 0,
             decimals: 0,
         },
-        Data::Number(x) => x.value,
+        Data::Number(x) => number::as_decimal(x),
         Data::Invalid => Decimal {
             number: 0,
             decimals: 0,

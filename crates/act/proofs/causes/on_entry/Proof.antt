@@ -64,9 +64,9 @@ returns-5 c =
     let row = t .row-or-zeros .result in
     let x = k .body .given .0 .0 in
     c .asks2 .ensures
-    ∙ ap₂ (λ (b z : Bool). stands true (isFound (s .args .entry)) b (eqb (x .value .decimals) (row .decimals)) z true) (a .is-writable .ensures)
-    (w .within-row .ensures ∙ ap (λ (n : ℤ). inRange (row .least) n (row .greatest)) (rd-is {z = x .value .number} (record { sfits = w .before .struct-told3 .given .0 .1 .1 .0 .1 })))
-    ∙ ap (λ (r : Row). stands true (isFound (s .args .entry)) (isWritable r) (eqb (x .value .decimals) (r .decimals)) (inRange (r .least) (x .value .number) (r .greatest)) true) (t .row-or-zeros .ensures)
+    ∙ ap₂ (λ (b z : Bool). stands true (isFound (s .args .entry)) b (eqb (x .decimals) (row .decimals)) z true) (a .is-writable .ensures)
+    (w .within-row .ensures ∙ ap (λ (n : ℤ). inRange (row .least) n (row .greatest)) (rd-is {z = x .number} (record { sfits = w .before .struct-told3 .given .0 .1 })))
+    ∙ ap (λ (r : Row). stands true (isFound (s .args .entry)) (isWritable r) (eqb (x .decimals) (r .decimals)) (inRange (r .least) (x .number) (r .greatest)) true) (t .row-or-zeros .ensures)
     ∙ sym (rw (k .body .given .1))
 
 returns-6 : tie.Need-returns-6

@@ -1,5 +1,5 @@
 -- `act::causes::takes_zero` meets its contract: the arm says the type, and only a Type 3 can be of minus zero. Assumes nothing.
-use mathlib.Core.Path.{sym}
+use mathlib.Core.Path.{sym, ap, _∙_}
 use Rattle.message.specs.Message.{asksMinusZero}
 use Rattle.act.specs.Cause.{takesZero}
 use borrow.Author.Needs.{needs}
@@ -23,8 +23,7 @@ unfolding takesZero asksMinusZero
 returns-4 c = sym (rw (c .enum-told4 .given .1))
 
 returns-5 : tie.Need-returns-5
-unfolding takesZero asksMinusZero
-returns-5 c = sym (rw (c .before .before .before .body .given .1))
+returns-5 c = c .takes .ensures ∙ ap (takesZero (c .before .before .before .before .args .setup)) (sym (c .before .before .body .given .1))
 
 returns-6 : tie.Need-returns-6
 unfolding takesZero asksMinusZero
@@ -32,5 +31,5 @@ returns-6 c = sym (rw (c .enum-told5 .given .1))
 
 pub takes-zero-spec : {M : Type 1} → statement M
 takes-zero-spec = tie.close (tie.spec
-    (λ c. search needs) (λ c. search needs) (λ c. search needs) (λ c. search needs) (λ c. search needs) (λ c. search needs)
-    returns returns-2 returns-3 returns-4 returns-5 returns-6)
+    (λ c. search needs) (λ c. search needs) (λ c. search needs) (λ c. search needs) (λ c. search needs) (λ c κs. search needs)
+    (λ c. search needs) returns returns-2 returns-3 returns-4 returns-5 returns-6)
