@@ -32,8 +32,8 @@ mod linked {
     const LENGTHS: [usize; 3] = [10_000, 100_000, 1_000_000];
     const SHEETS: [usize; 2] = [64, 4];
 
-    /// Everything that a measurement lends, made once. The cards have the first revision, which answers both zeros alike, so that words and
-    /// replies are those from before there were two.
+    /// Everything that a measurement lends, made once. The cards have the first revision, which answers both
+    /// zeros alike, so that words and replies are those from before there were two.
     struct Input {
         world: World,
         words: Vec<u16>,

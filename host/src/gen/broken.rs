@@ -11,7 +11,7 @@ pub fn break_card(rng: &mut Rng, card: &mut Vec<i32>) {
             let any = rng.below(23);
             card.truncate(rng.pick(&[any, 16, 22]));
         }
-        1 => card.push(rng.wild()),
+        1 => lengthen_card(rng, card),
         2 => card[0] = rng.pick(&[0, 75, 77, 0xCC, 0xD2, 76 + 256, -76, i32::MIN, i32::MAX]),
         3 => card[1] = rng.pick(&[0, 100, -1, -7, 256, 263, 355, 65_543, i32::MIN, i32::MAX]),
         4 => card[2] = rng.pick(&[-1, 11, 12, 128, 255, 256, 266, i32::MIN, i32::MAX]),
@@ -29,6 +29,17 @@ pub fn break_card(rng: &mut Rng, card: &mut Vec<i32>) {
         8 | 9 if length == 0 => card[2] = rng.within(1, 10),
         10 => card[22] = wrong_revision(rng),
         _ => card[0] = 0,
+    }
+}
+
+/// Makes a row of 23 numbers longer: by 1, 2 or 9 of them, or by one or two copies of itself, back to back.
+pub fn lengthen_card(rng: &mut Rng, card: &mut Vec<i32>) {
+    match rng.pick(&[24, 25, 32, 46, 69]) {
+        length @ (46 | 69) => *card = card.repeat(length / 23),
+        length => card.resize_with(length, || {
+            let any = rng.wild();
+            rng.pick(&[0, 1, 2, any])
+        }),
     }
 }
 

@@ -164,7 +164,7 @@ fn codes(words: &[u16]) -> Vec<usize> {
     words.windows(7).enumerate().filter(|(_, part)| data(part)).map(|(at, _)| at + 5).collect()
 }
 
-/// Makes the number of every other Type 3 a zero, half of these minus zero. The decimals stay.
+/// Makes the number of about half of the Type 3s a zero, about half of these minus zero. The decimals stay.
 pub fn zeros(rng: &mut Rng, words: &mut [u16]) {
     for at in codes(words) {
         if rng.percent(50) {
@@ -174,6 +174,20 @@ pub fn zeros(rng: &mut Rng, words: &mut [u16]) {
             words[at] = u16::from(on_line(b'0' + code));
         }
     }
+}
+
+/// The words with each minus zero made zero, in all that looks like the data of a Type 3, heard or not.
+/// Nothing else changes in what is heard, since a code of 0 to 3 can stand wherever one of 5 to 8 can.
+pub fn without_minus_zeros(words: &[u16]) -> Vec<u16> {
+    let zero = u16::from(on_line(b'0'));
+    let mut plain = words.to_vec();
+    for at in codes(words) {
+        let code = words[at] as u8 & 0x7F;
+        if code >= b'5' && words[at - 4..at].iter().all(|&word| word == zero) {
+            plain[at] = u16::from(on_line(code - 5));
+        }
+    }
+    plain
 }
 
 /// Random words with no thought behind them, each 0 to 256, from few characters or from all.

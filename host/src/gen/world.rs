@@ -125,7 +125,7 @@ impl World {
     pub fn new(rng: &mut Rng) -> World {
         let (bench, maker) = (some_rows(rng), some_rows(rng));
         let mut world = World::with_rows(rng, bench, maker);
-        world.revise(rng);
+        world.any_revision(rng);
         let named = rng.pick(&[0, 4, 5, 5]);
         world.scan(rng, named);
         if rng.percent(40) {
@@ -138,7 +138,7 @@ impl World {
     }
 
     /// Gives the card one of the two revisions.
-    pub fn revise(&mut self, rng: &mut Rng) {
+    pub fn any_revision(&mut self, rng: &mut Rng) {
         self.card[22] = rng.pick(&[1, 2]);
     }
 

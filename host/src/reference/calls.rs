@@ -39,8 +39,9 @@ fn counted(result: Result<usize, Refusal>) -> i64 {
     result.map_or_else(refused, |count| count as i64)
 }
 
-/// The card that a row of 23 is. `None`, where its length or its numbers 0 to 12 and 22 are no card's, is number
-/// 1 before the sheets; whether the card is sound is asked later, and of its offer and scan after the sheets.
+/// The card that a row of 23 is. `None`, where its length or its numbers 0 to 12 and 22 are no card's, is
+/// number 1 before the sheets; whether the card is sound is asked later, and of its offer and scan after the
+/// sheets.
 pub fn card_of(row: &[i32]) -> Option<Card> {
     let row: &[i32; CARD] = row.try_into().ok()?;
     let code = |number: i32| u8::try_from(number).ok();
@@ -151,8 +152,8 @@ pub fn normal_form(words: &[u16], out: &mut [u16]) -> i64 {
     counted(normal::normal_form(words, out))
 }
 
-/// The message with this body's first character. `None` where there is none such: number 7. Number, decimals and
-/// minus zero are looked at for Type 3 only.
+/// The message with this body's first character. `None` where there is none such: number 7. Number, decimals
+/// and minus zero are looked at for Type 3 only.
 #[inline]
 fn message_of(
     letter: u8,

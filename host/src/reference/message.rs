@@ -101,8 +101,8 @@ pub fn parse(characters: &[u8]) -> Option<Message> {
     Some(Message { letter, address, identifier, kind })
 }
 
-/// Four digits and a code, and whether they are minus zero. Request 5: "The digit reader must now tell minus zero
-/// from zero".
+/// Four digits and a code, and whether they are minus zero. Request 5: "The digit reader must now tell minus
+/// zero from zero".
 #[inline]
 pub(super) fn parse_data(digits: &[u8; 5]) -> Option<(Data, bool)> {
     let mut number = 0;

@@ -3,9 +3,10 @@
 use kavtziron_host::gen::World;
 use std::fmt::{Debug, Display, Write as _};
 
-/// One call with all that is lent. The rooms are filled with a pattern; `counts` and `cause` are lengths. `Ignored` is several calls: a
-/// recording, and what the card hears in it that is for itself, with room for every reply. `Zeros` is several too: a recording and the same
-/// with each minus zero made zero, at both revisions.
+/// One call with all that is lent. The rooms are filled with a pattern; `counts` and `cause` are lengths.
+/// `Ignored` is several calls: a recording, and what the card hears in it that is for itself, with room for
+/// every reply. `Zeros` is several too: a recording and the same with each minus zero made zero, at both
+/// revisions.
 #[derive(Clone, Debug, PartialEq)]
 pub(crate) enum Case {
     Step { world: Lent, word: u16, room: usize, cause: usize },

@@ -79,7 +79,7 @@ fn same_result(archive: i64, reference: i64) -> Result<i64, String> {
     }
 }
 
-/// What both sides gave: the result, and where a single word was served the cause, and what a Type 3 of zero drew.
+/// What both sides gave: the result, and of a served single word the cause and what a Type 3 of zero drew.
 pub(crate) struct Agreed {
     pub(crate) result: i64,
     pub(crate) cause: Option<Cause>,

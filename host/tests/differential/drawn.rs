@@ -1,5 +1,5 @@
-//! How often the random groups drew each cause, each position and each answer to a Type 3 of zero. One that they never did is a failure of
-//! the tests themselves.
+//! How often the random groups drew each cause, each position and each answer to a Type 3 of zero. One that
+//! they never did is a failure of the tests themselves.
 
 use kavtziron_host::gen::on_line;
 
@@ -27,20 +27,20 @@ const POSITIONS: std::ops::RangeInclusive<i32> = 1..=9;
 /// A Type 3 of zero that was answered: which zero, at which revision, and whether with `I` or with `N`.
 #[derive(Clone, Copy, PartialEq, Debug)]
 pub(crate) struct Zero {
-    minus: bool,
+    minus_zero: bool,
     revision: i32,
     accepted: bool,
 }
 
 /// All but minus zero accepted at the second revision.
 const ZEROS: [Zero; 7] = [
-    Zero { minus: true, revision: 1, accepted: true },
-    Zero { minus: true, revision: 1, accepted: false },
-    Zero { minus: true, revision: 2, accepted: false },
-    Zero { minus: false, revision: 1, accepted: true },
-    Zero { minus: false, revision: 1, accepted: false },
-    Zero { minus: false, revision: 2, accepted: true },
-    Zero { minus: false, revision: 2, accepted: false },
+    Zero { minus_zero: true, revision: 1, accepted: true },
+    Zero { minus_zero: true, revision: 1, accepted: false },
+    Zero { minus_zero: true, revision: 2, accepted: false },
+    Zero { minus_zero: false, revision: 1, accepted: true },
+    Zero { minus_zero: false, revision: 1, accepted: false },
+    Zero { minus_zero: false, revision: 2, accepted: true },
+    Zero { minus_zero: false, revision: 2, accepted: false },
 ];
 
 impl Zero {
@@ -50,20 +50,20 @@ impl Zero {
         let open: Vec<u8> = card[3..3 + card[2] as usize].iter().map(|&character| character as u8).collect();
         match open[..] {
             [.., b'#', b'0', b'0', b'0', b'0', code] if word == u16::from(on_line(b'*')) => {
-                Some(Zero { minus: code > b'4', revision: card[22], accepted: outcome == b'I' })
+                Some(Zero { minus_zero: code > b'4', revision: card[22], accepted: outcome == b'I' })
             }
             _ => None,
         }
     }
 
     fn name(&self) -> String {
-        let zero = if self.minus { "minus zero" } else { "zero" };
+        let zero = if self.minus_zero { "minus zero" } else { "zero" };
         format!("{zero}, revision {}, {}", self.revision, if self.accepted { 'I' } else { 'N' })
     }
 }
 
-/// Whether a reply, or silence, can have this cause. Code 4 is that of minus zero at the second revision alone, which is never accepted and
-/// has no cause behind that.
+/// Whether a reply, or silence, can have this cause. Code 4 is that of minus zero at the second revision
+/// alone, which is never accepted and has no cause behind that.
 pub(crate) fn suits([code, position]: Cause, zero: Option<Zero>, reply: &[u8]) -> bool {
     let codes = match reply.len().checked_sub(2).map(|at| reply[at] & 0x7F) {
         None => 7..=10,
@@ -71,7 +71,7 @@ pub(crate) fn suits([code, position]: Cause, zero: Option<Zero>, reply: &[u8]) -
         Some(_) => 0..=0,
     };
     let placed = if code == 10 { POSITIONS.contains(&position) } else { position == 0 };
-    let refused = zero.is_some_and(|zero| zero.minus && zero.revision == 2);
+    let refused = zero.is_some_and(|zero| zero.minus_zero && zero.revision == 2);
     codes.contains(&code) && placed && if refused { (1..=4).contains(&code) } else { code != 4 }
 }
 
@@ -93,11 +93,10 @@ impl Drawn {
         self.positions[position as usize] += 1;
     }
 
-    /// Counts an answer to a Type 3 of zero.
+    /// Counts an answer to a Type 3 of zero whose cause suits it.
     pub(crate) fn count_zero(&mut self, zero: Zero) {
-        if let Some(at) = ZEROS.iter().position(|&other| other == zero) {
-            self.zeros[at] += 1;
-        }
+        let at = ZEROS.iter().position(|&other| other == zero).expect("no cause suits another");
+        self.zeros[at] += 1;
     }
 
     pub(crate) fn add(&mut self, other: &Drawn) {

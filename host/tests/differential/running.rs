@@ -19,7 +19,8 @@ struct Found {
     failure: Box<Failure>,
 }
 
-/// Runs a group over its numbers on all processors. Gives the count of cases, and counts what was drawn at random.
+/// Runs a group over its numbers on all processors. Gives the count of cases; what was drawn at random is
+/// counted too.
 fn run_group(at: usize, seed: u64, numbers: u64, traced: bool, drawn: &Mutex<Drawn>) -> (u64, Option<Found>) {
     const BLOCK: u64 = 64;
     let group = &GROUPS[at];

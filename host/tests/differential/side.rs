@@ -1,4 +1,4 @@
-//! Each side by itself: what playing a recording draws and leaves, how a message is spelled, and the normal form.
+//! Each side by itself: what playing a recording draws and leaves, how a message is spelled, its normal form.
 
 use crate::case::Lent;
 use kavtziron_host::abi;

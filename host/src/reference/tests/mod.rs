@@ -16,7 +16,7 @@ mod zero;
 use super::card::{run, step, Card, Stepped};
 use super::cause::Cause;
 use super::hearing::{for_each_heard, Open};
-use super::message::Message;
+use super::message::{Kind, Message};
 use super::parity::{is_good, on_line};
 use super::scan::Scan;
 
@@ -67,24 +67,33 @@ fn answers(card: &mut Card, values: &mut [i32; 128], sent: &[u16]) -> String {
     let mut bytes = Vec::new();
     for &word in sent {
         let mut out = [0xEE; 35];
+        let minus_zero = closes_minus_zero(&other, word);
         let Stepped { written, cause } = step(&mut other, &BENCH, &[], &mut others, word, &mut out).unwrap();
         assert!(out[written..].iter().all(|&byte| byte == 0xEE));
-        assert!(suits(cause, &out[..written]), "{cause:?}");
+        assert!(suits(cause, minus_zero, &out[..written]), "{cause:?}");
         bytes.extend_from_slice(&out[..written]);
     }
     assert_eq!((*card, *values, &out[..ran.written]), (other, others, &bytes[..]));
     text(&bytes)
 }
 
-/// Whether a reply, or silence, can have this cause.
-fn suits(cause: Cause, reply: &[u8]) -> bool {
-    let codes = match text(reply).as_bytes() {
-        [] => 7..=10,
-        [.., b'N', b'*'] => 1..=6,
-        _ => 0..=0,
-    };
+/// Whether this word closes a Type 3 of minus zero at a card of the second revision.
+fn closes_minus_zero(card: &Card, word: u16) -> bool {
+    let closed = card.open.heard().filter(|_| word == 0xAA).map(|message| message.kind);
+    card.revision == 2 && matches!(closed, Some(Kind::Set { minus_zero: true, .. }))
+}
+
+/// Whether a reply, or silence, can have this cause. Code 4 is that of minus zero at the second revision
+/// alone, which is never accepted and has no cause behind that.
+fn suits(cause: Cause, minus_zero: bool, reply: &[u8]) -> bool {
     let [code, position] = cause.numbers();
-    codes.contains(&code) && (position != 0) == (code == 10) && matches!(position, 0..=9)
+    let named = match text(reply).as_bytes() {
+        [] => matches!(code, 7..=10),
+        [.., b'N', b'*'] if minus_zero => matches!(code, 1..=4),
+        [.., b'N', b'*'] => matches!(code, 1..=3 | 5 | 6),
+        _ => code == 0 && !minus_zero,
+    };
+    named && (position != 0) == (code == 10) && matches!(position, 0..=9)
 }
 
 fn from_afresh(sent: &str) -> String {

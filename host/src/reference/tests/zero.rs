@@ -1,4 +1,4 @@
-//! Request 5: minus zero and zero are two messages, and a card of the second revision refuses the first of them.
+//! Request 5: minus zero and zero are two messages; a card of the second revision refuses the first.
 
 use super::{answers, heard, text, values, words, BENCH, CARD};
 use crate::gen::{self, Rng, World};
@@ -230,17 +230,6 @@ fn the_normal_form_keeps_the_sign_of_zero() {
     }
 }
 
-/// The words with each minus zero that is heard in them made zero.
-fn with_zeros(words: &[u16]) -> Vec<u16> {
-    let mut zeros = words.to_vec();
-    for (at, message) in heard(words) {
-        if let Kind::Set { data, minus_zero: true } = message.kind {
-            zeros[at - 1] = u16::from(gen::on_line(b'0' + data.decimals));
-        }
-    }
-    zeros
-}
-
 /// Whole recordings: the first revision answers both zeros alike, and without minus zero both revisions do.
 #[test]
 fn recordings() {
@@ -251,7 +240,16 @@ fn recordings() {
         world.open_with(b"");
         let mut sent = gen::recording(&mut rng, &world, 300, gen::ROUGH);
         gen::zeros(&mut rng, &mut sent);
-        let zeros = with_zeros(&sent);
+        let plain = gen::without_minus_zeros(&sent);
+        // The same is heard in it, at the same places, but for the sign of zero.
+        let mut without = heard(&sent);
+        for (_, message) in &mut without {
+            if let Kind::Set { minus_zero, .. } = &mut message.kind {
+                minus_zeros += u32::from(*minus_zero);
+                *minus_zero = false;
+            }
+        }
+        assert_eq!(heard(&plain), without);
         let play = |revision: i32, words: &[u16]| {
             let (mut card, mut held) = (world.card.clone(), world.values.clone());
             card[22] = revision;
@@ -263,12 +261,12 @@ fn recordings() {
             out.truncate(counts[1] as usize);
             (out, held, card[13..16].to_vec())
         };
-        assert_eq!(play(1, &sent), play(1, &zeros));
-        assert_eq!(play(1, &zeros), play(2, &zeros));
-        minus_zeros += sent.iter().zip(&zeros).filter(|(a, b)| a != b).count();
-        // Their normal forms differ in the same messages, and play like them.
-        assert_eq!(with_zeros(&normal(&sent)), normal(&zeros));
-        assert_eq!(normal(&sent) == normal(&zeros), sent == zeros);
+        assert_eq!(play(1, &sent), play(1, &plain));
+        assert_eq!(play(1, &plain), play(2, &plain));
+        // The normal form is heard as the recording is, the sign of zero too, and plays like it.
+        let messages = |words: &[u16]| heard(words).into_iter().map(|heard| heard.1).collect::<Vec<_>>();
+        assert_eq!(messages(&normal(&sent)), messages(&sent));
+        assert_eq!(gen::without_minus_zeros(&normal(&sent)), normal(&plain));
         assert_eq!(normal(&normal(&sent)), normal(&sent));
         for revision in [1, 2] {
             assert_eq!(play(revision, &normal(&sent)), play(revision, &sent));

@@ -1,4 +1,4 @@
-//! Groups of requests 4 and 5: the cause that `kav_step` gives beside the reply, known ones and every two at once.
+//! Groups of requests 4 and 5: the cause beside the reply of `kav_step`, known ones and every two at once.
 
 use super::{Bench, Checked};
 use crate::case::{Case, Lent};

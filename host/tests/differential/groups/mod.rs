@@ -55,6 +55,14 @@ impl Bench {
         made_to_give(case, got, result)
     }
 
+    /// The call has to be served, with whatever result.
+    fn expect_served(&mut self, case: Case) -> Checked {
+        match self.compare(&case)?.result {
+            0.. => Ok(()),
+            refused => made_to_give(case, refused, 0),
+        }
+    }
+
     /// The single word has to be served, with this cause.
     fn expect_cause(&mut self, case: Case, cause: Cause) -> Checked {
         let got = self.compare(&case)?.cause;

@@ -38,7 +38,7 @@ fn talk(rng: &mut Rng, world: &World, length: usize) -> Vec<u16> {
     words
 }
 
-/// A body of each type for the identifier offered and for `]`, with the value offered, another and minus zero.
+/// A body of each type for the identifier offered and for `]`: the value offered, another, minus zero.
 fn bodies(rng: &mut Rng, world: &World) -> Vec<String> {
     let (identifier, value) = (world.card[14], world.card[15]);
     let decimals = world.rows.iter().find(|row| row[0] == identifier).map_or(0, |row| row[2]);

@@ -11,10 +11,10 @@ const BODIES: [&str; 9] = ["??", "m?", "m+", "m-", "mI", "m#00231", "m#00001", "
 /// Letters, addresses, bodies, places and characters.
 pub(crate) const PLACES: u64 = 2 * 3 * 9 * 11 * 128;
 
-/// A card of either revision with few rows, with and without an offer and a scan. Most often the message is for it.
+/// A card of either revision with few rows, with and without offer and scan. Most messages are for it.
 fn card_for(rng: &mut Rng, letter: u8, address: i32) -> World {
     let mut world = World::with_rows(rng, 1, 1);
-    world.revise(rng);
+    world.any_revision(rng);
     let row = gen::row(rng, b'm');
     let value = gen::value(rng, &row);
     world.set_rows(b'm', Some(row), None, value);

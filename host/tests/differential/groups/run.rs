@@ -2,6 +2,7 @@
 
 use super::{room_near, some_words, Bench, Checked};
 use crate::case::{Case, Lent};
+use crate::zeros::at_revision;
 use kavtziron_host::gen::{self, Rng, World};
 use kavtziron_host::reference::calls;
 
@@ -78,12 +79,11 @@ pub(super) fn in_parts(rng: &mut Rng, mut world: World, words: &[u16], bench: &m
     Ok(())
 }
 
-/// A card that answers `#` and all hundred thousand data digits, with rows of each kind.
+/// A card that answers `#` and all hundred thousand data digits, with rows of each kind, at both revisions.
 pub(crate) fn every_data(rng: &mut Rng, number: u64, bench: &mut Bench) -> Checked {
     let text = format!("L7m#{number:05}*L7mI*");
     let mut world = World::with_rows(rng, 0, 0);
     world.card[..2].copy_from_slice(&[76, 7]);
-    world.revise(rng);
     world.bench = gen::row(rng, b'm').to_vec();
     world.rows = gen::rows_of(&world.bench).collect();
     if rng.percent(80) {
@@ -94,7 +94,11 @@ pub(crate) fn every_data(rng: &mut Rng, number: u64, bench: &mut Bench) -> Check
     world.values[109] = gen::value(rng, &world.rows[0]);
     let words: Vec<u16> = gen::words_of(text.as_bytes()).collect();
     bench.check(Case::NormalForm { words: words.clone(), room: 20 })?;
-    bench.check(Case::Run { world: world.into(), words, room: 24, counts: 2 })?;
+    let lent: Lent = world.into();
+    for revision in [1, 2] {
+        let (world, words) = (at_revision(&lent, revision), words.clone());
+        bench.check(Case::Run { world, words, room: 24, counts: 2 })?;
+    }
     Ok(())
 }
 
@@ -110,7 +114,7 @@ pub(crate) fn every_pair(rng: &mut Rng, number: u64, bench: &mut Bench) -> Check
     let room = words.len();
     bench.check(Case::NormalForm { words: words.clone(), room })?;
     let mut world = World::with_rows(rng, 40, 40);
-    world.revise(rng);
+    world.any_revision(rng);
     let named = rng.pick(&[0, 4, 5]);
     world.scan(rng, named);
     world.card[..2].copy_from_slice(&[76, 7]);

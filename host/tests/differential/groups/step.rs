@@ -122,7 +122,7 @@ pub(crate) fn refusals(rng: &mut Rng, number: u64, bench: &mut Bench) -> Checked
     let cause = if has(8) { rng.below(2) } else { cause_length(rng) };
     let case = Case::Step { world: lent.clone(), word, room, cause };
     match if first == 0 && (has(6) || has(8)) { 5 } else { first } {
-        0 => bench.check(case).map(|_| ())?,
+        0 => bench.expect_served(case)?,
         refusal => bench.expect(case, -refusal)?,
     }
 

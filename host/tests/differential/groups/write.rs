@@ -150,7 +150,7 @@ const DECIMALS: [u32; 7] = [0, 1, 2, 3, 4, 256, u32::MAX];
 /// Kinds, numbers, decimals and minus zero.
 pub(crate) const ASKED: u64 = 6 * 11 * 7 * 10;
 
-/// Each kind with each number, count of decimals and mark of minus zero, which are looked at for Type 3 only.
+/// Each kind with each number, count of decimals and `minus_zero`, which are looked at for Type 3 only.
 pub(crate) fn minus_zeros_asked(rng: &mut Rng, number: u64, bench: &mut Bench) -> Checked {
     let number = (number * 7_919 % ASKED) as usize;
     let (identifier, kind) = KINDS[number % 6];
