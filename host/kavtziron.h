@@ -30,8 +30,8 @@
  * numbers 2 to 15 and nothing else.
  * A sheet is 0 to 64 rows of six numbers: identifier, access (1 read only, 2 read and write, 3 write
  * only), decimals, step, least, greatest. Values are 128 numbers, one for each character code.
- * Minus zero is the data 0000 with code 5 to 8. It is a message of its own, apart from zero, and is written,
- * listed and kept in the normal form as such. No card replies with it.
+ * A Type 3 of minus zero (data 0000 with code 5 to 8) is another message than one of zero, and is written,
+ * listed and kept in the normal form as such. No card replies with minus zero.
  */
 #ifndef KAVTZIRON_H
 #define KAVTZIRON_H
