@@ -1,5 +1,5 @@
 /*
- * The seven functions from C, once each and refused once each. From host/:
+ * The seven functions from C, each of them served and refused. From host/:
  *
  *   gcc -std=c11 -Wall -Wextra -O2 -I. c/smoke.c ../target/staticlib/libabi.a -o c/smoke && c/smoke
  *
@@ -164,7 +164,11 @@ int main(void) {
     check_text("a scan's '+'", out, replied, "L7]00000N*");
     check_cause("a scan's '+'", cause, KAV_CAUSE_ACCESS, 0);
 
-    /* Minus zero at both revisions, word by word: bench case i, out of range, wrong decimals, and zero. */
+    /*
+     * Both zeros, word by word: bench case i at both revisions, zero, and what comes before and behind minus
+     * zero at the second: out of range (at both), wrong decimals, access, no such identifier, the same on ']'
+     * at a card without a scan. Then ']' at one with a scan, and a run.
+     */
     const struct {
         const char *sent, *replied;
         int32_t revision, code;
@@ -190,6 +194,19 @@ int main(void) {
         check_cause(zeros[which].sent, cause, zeros[which].code, 0);
         check("the revision", fresh[22], zeros[which].revision);
     }
+    int32_t second[KAV_CARD] = {'L', 7, 9, 'L', '7', ']', '#', '0', '0', '0', '0', '5', [22] = 2};
+    memcpy(second + 16, four, sizeof four);
+    replied = kav_step(second, KAV_CARD, bench, bench_length, maker, 0, values, KAV_VALUES,
+                       0xAA, out, sizeof out, cause, KAV_CAUSE);
+    check_text("a scan's minus zero", out, replied, "L7]00000N*");
+    check_cause("a scan's minus zero", cause, KAV_CAUSE_ACCESS, 0);
+    length = words_of("L7m#00301*L7m#00006*L7mI*L7J#00001*L7JI*", words);
+    check("run at the second revision",
+          kav_run(second, KAV_CARD, bench, bench_length, maker, 0, values, KAV_VALUES,
+                  words, length, out, sizeof out, counts, 2), 0);
+    check("words taken", (int64_t)counts[0], (int64_t)length);
+    check_text("replies", out, (int64_t)counts[1], "L7m00301I*L7m00251N*L7J00001I*L7J00001A*");
+    check("the revision", second[22], 2);
 
     /* Another revision, or a row of 22 numbers: before the sheets. */
     const int32_t no_revisions[] = {0, 3, -1, 256, 257, INT32_MIN, INT32_MAX};
@@ -282,6 +299,7 @@ int main(void) {
     check("line of minus zero", count, (int64_t)strlen(line_of_minus_zero));
     check("its bytes", memcmp(out, line_of_minus_zero, strlen(line_of_minus_zero)), 0);
     check("line of minus zero beside -5", kav_line(16, 'L', 7, 'm', '#', -5, 1, 1, out, sizeof out), -7);
+    check("line with a minus zero of 2", kav_line(16, 'L', 7, 'm', '#', 0, 1, 2, out, sizeof out), -7);
     check("line of no message", kav_line(16, 'L', 7, '?', '+', 0, 0, 0, out, sizeof out), -7);
 
     int32_t row[KAV_ROW];
