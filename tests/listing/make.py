@@ -1,6 +1,7 @@
 #!/usr/bin/env python3
 """Makes the cases of this folder: NAME.in, the bytes of standard input, and NAME.out, what `list` must write for them.
-The expected output is made here from document 01 by a regular expression, and not by the program or its definitions.
+The expected output is made here from document 01 and request 5 (the sign of zero is kept) by a regular expression, and not
+by the program or its definitions.
 It also writes the input and output that the gate runs the program on, crates/list/stdin and stdout.
 """
 import os, re, sys
@@ -78,8 +79,9 @@ for name, data in cases.items():
 
 assert text(example) == b'AT CARD ID KIND DATA\n6 L7 M ? -\n16 L7 m # 00231\nEND 2\n'
 
-# the gate's run: a message across the end of each of two buffers, and a session around them
-words = session(4096 - 4, 3) + line('L07m#00231*')
-words += session(8192 - 7 - len(words), 5) + line('L7J#00126*') + session(900, 9) + line('L7??*')
+# the gate's run: a message across the end of each of two buffers, minus zero behind the second, and a session around them; a
+# silence before each message drops what the session leaves open
+words = session(4096 - 5, 3) + quiet(1) + line('L07m#00231*')
+words += session(8192 - 8 - len(words), 5) + quiet(1) + line('L7J#00126*L7J#00006*') + session(900, 9) + quiet(1) + line('L7??*')
 write(os.path.join(root, 'crates/list/stdin'), pack(words))
 write(os.path.join(root, 'crates/list/stdout'), text(pack(words)))
