@@ -9,7 +9,7 @@ use lib.IntN.{ℤ, pos, negℤ}
 use Rattle.refusal.specs.Refusal.{Outcome, refused, gave, numberOf}
 use Rattle.refusal.specs.Call.{Call, refuses}
 use Rattle.refusal.specs.declared.Refusal.the-variants.{NotMessage}
-use Rattle.number.specs.Data.{withDecimals, withZero}
+use Rattle.number.specs.Data.{withDecimals, withSign}
 use Rattle.message.specs.Message.{question}
 use Rattle.message.specs.Prefix.{message}
 use Rattle.message.specs.Spell.{writeCall}
@@ -53,7 +53,7 @@ given c = filled (resultOf (c .outcome)) (c .buffer)
 
 -- z is 1 for minus zero and 0 for any other number
 unfoldable pub setOf : ℕ → ℕ → ℕ → ℤ → ℕ → ℕ → Parsed
-setOf l a i n d z = cond (leb d 255 && leb z 1) (Heard (message l a i (Set (withZero (withDecimals n d) (eqb z 1))))) Unheard
+setOf l a i n d z = cond (leb d 255 && leb z 1) (Heard (message l a i (Set (withSign (withDecimals n d) (eqb z 1))))) Unheard
 
 unfoldable pub bodyOf : ℕ → ℕ → ℕ → ℕ → ℤ → ℕ → ℕ → Parsed
 bodyOf l a i k n d z =

@@ -9,7 +9,7 @@ use native.Mathlib.Omega.{arith}
 use borrow.Author.Tests.{ltb-true}
 use lib.Dec.{eqb, ltb}
 use lib.IntN.{ℤ}
-use Rattle.refusal.specs.Refusal.{Outcome, refused, gave}
+use Rattle.refusal.specs.Refusal.{refused}
 use Rattle.refusal.specs.Check.{Check, first, decided}
 use Rattle.refusal.specs.Lists.{every}
 use Rattle.refusal.proofs.Logic.{ands, not-is, by-test}

@@ -1,7 +1,7 @@
 -- Both zeros and both revisions: of minus zero alone does the revision decide, so cards of two revisions act alike on any other message;
 -- and where the revision is not the second, a message acts as the same message with zero in place of minus zero. Assumes nothing.
-use mathlib.Core.Path.{_≡_, refl, sym, ap, ap₂, _∙_}
-use mathlib.Core.Bool.{Bool, true, false, cond, not, _&&_, false≢true}
+use mathlib.Core.Path.{_≡_, refl, sym, ap, _∙_}
+use mathlib.Core.Bool.{Bool, true, false, not, _&&_, false≢true}
 use mathlib.Core.List.{List, _∷_}
 use Prim.Native.Nat.{ℕ, zero, suc}
 use native.Mathlib.Omega.{arith}
@@ -10,24 +10,24 @@ use lib.IntN.{ℤ, pos}
 use lib.ListN.{getD}
 use Rattle.refusal.specs.Refusal.{Outcome, refused}
 use Rattle.refusal.specs.Lists.{every}
-use Rattle.refusal.specs.Check.{Check, first, decided}
+use Rattle.refusal.specs.Check.{Check, first}
 use Rattle.refusal.proofs.Logic.{by-test}
 use Rattle.refusal.proofs.Checks.{refused-is, first-line}
 use Rattle.message.specs.declared.Body.{Body}
 use Rattle.message.specs.declared.Body.the-variants as body
 use Rattle.message.specs.declared.Message.{Message}
 use Rattle.message.specs.Message.{asksMinusZero, unsignedBody, unsignedZero}
+use Rattle.message.proofs.Messages.{by-unsigned, asks-set}
 use Rattle.sheet.specs.declared.Row.{Row}
 use Rattle.sheet.specs.declared.Entry.{Entry}
 use Rattle.sheet.specs.Values.{entryIn}
-use Rattle.reply.specs.declared.Content.{Content}
 use Rattle.reply.specs.Reply.{scanIdentifier}
 use Rattle.act.specs.declared.Setup.{Setup}
 use Rattle.act.specs.declared.Offer.{Offer}
 use Rattle.act.specs.declared.Offer.the-variants.{Nothing}
-use Rattle.act.specs.declared.Effect.{Effect}
+use Rattle.act.specs.declared.Store.the-variants.{Keep}
 use Rattle.act.specs.declared.causes.Standing.{Standing}
-use Rattle.act.specs.Cause.{standing, onEntry, onBracket, isFor, takesZero, causes, because, upToMinusZero, isOneOf}
+use Rattle.act.specs.Cause.{standing, onBracket, isFor, takesZero, causes, because, causesOfN, upToMinusZero, isOneOf}
 use Rattle.act.specs.Act.{says, accepts, offers, granted, named, namesFrom, scanOf, standingWith, turnedDown, respond, act, causesIn, ofRevision}
 
 -- ---- two revisions
@@ -64,21 +64,22 @@ pub record UpToMinusZero (o : Outcome (Unit {0})) : Type 0 where
   pub number : ℕ
   pub given : o ≡ refused number
   pub among : isOneOf number upToMinusZero ≡ true
+  pub of-n : isOneOf number causesOfN ≡ true
   pub ours : eqb number 7 ≡ false
   pub no-store : eqb number 8 ≡ false
 
 up-to : (c : Setup) (m : Message) (s : Standing) → isFor c m ≡ true → s .offered ≡ true → takesZero c (m .body) ≡ false → UpToMinusZero (first (causes c m s))
-unfolding first causes isOneOf upToMinusZero
+unfolding first causes isOneOf upToMinusZero causesOfN
 up-to c m s its o z =
     by-test (s .exists)
     (λ t.
     by-test (s .allowed)
     (λ u.
     by-test (s .matching)
-    (λ w. record { number = 4; given = rw (its, o, t, u, w, z); among = refl; ours = refl; no-store = refl })
-    (λ w. record { number = 3; given = rw (its, o, t, u, w); among = refl; ours = refl; no-store = refl }))
-    (λ u. record { number = 2; given = rw (its, o, t, u); among = refl; ours = refl; no-store = refl }))
-    (λ t. record { number = 1; given = rw (its, o, t); among = refl; ours = refl; no-store = refl })
+    (λ w. record { number = 4; given = rw (its, o, t, u, w, z); among = refl; of-n = refl; ours = refl; no-store = refl })
+    (λ w. record { number = 3; given = rw (its, o, t, u, w); among = refl; of-n = refl; ours = refl; no-store = refl }))
+    (λ u. record { number = 2; given = rw (its, o, t, u); among = refl; of-n = refl; ours = refl; no-store = refl }))
+    (λ t. record { number = 1; given = rw (its, o, t); among = refl; of-n = refl; ours = refl; no-store = refl })
 
 -- only minus zero has the number 4, and only where it isn't taken
 four-untaken : (c : Setup) (m : Message) (s : Standing) → takesZero c (m .body) ≡ true → every (λ (x : Check). not (eqb (x .number) 4 && x .holds)) (causes c m s) ≡ true
@@ -93,28 +94,35 @@ unfolding first causes
 other-seven c m s t e = let z : _≡_ {A = ℕ} 7 4 = refused-is (sym (rw t) ∙ e) in omega arith
 
 -- a Type 3 needs no offer
-needs-none : (c : Setup) (o : Offer) (e : ℕ → Entry) (v : ℕ → ℤ) (m : Message) (b : Body) → m .body ≡ b → asksMinusZero b ≡ true → standingWith c o e v m .offered ≡ true
-unfolding asksMinusZero standing onBracket
-needs-none c o e v m body.Status q z = absurd (false≢true z)
-needs-none c o e v m body.Query q z = absurd (false≢true z)
-needs-none c o e v m body.Up q z = absurd (false≢true z)
-needs-none c o e v m body.Down q z = absurd (false≢true z)
-needs-none c o e v m (body.Set x) q z = by-test (eqb (m .identifier) scanIdentifier) (λ t. rw (t, q)) (λ t. rw (t, q))
-needs-none c o e v m body.Store q z = absurd (false≢true z)
+needs-none : (c : Setup) (o : Offer) (e : ℕ → Entry) (v : ℕ → ℤ) (m : Message) → asksMinusZero (m .body) ≡ true → standingWith c o e v m .offered ≡ true
+unfolding standing onBracket
+needs-none c o e v m z =
+    let q = asks-set (m .body) z .1 in
+    by-test (eqb (m .identifier) scanIdentifier) (λ t. rw (t, q)) (λ t. rw (t, q))
 
 module _ (c : Setup) (m : Message) (o : Offer) (bench maker values : List ℤ) where
   abbrev tests : List Check
   tests = causesIn bench maker c o values m
 
-  -- "the second answers a Type 3 of minus zero with `N`", and nothing is on offer
-  pub second-declines : eqb (c .revision) 2 ≡ true → isFor c m ≡ true → asksMinusZero (m .body) ≡ true
-      → (isOneOf (because (first tests) .code) upToMinusZero ≡ true) × (act bench maker c o values m .offer ≡ Nothing)
+  -- "the second answers a Type 3 of minus zero with `N`"; nothing is stored, and nothing is on offer
+  pub record Declined : Type 0 where
+    pub among : isOneOf (because (first tests) .code) upToMinusZero ≡ true
+    pub of-n : isOneOf (because (first tests) .code) causesOfN ≡ true
+    pub keeps : act bench maker c o values m .store ≡ Keep
+    pub gone : act bench maker c o values m .offer ≡ Nothing
+
+  pub second-declines : eqb (c .revision) 2 ≡ true → isFor c m ≡ true → asksMinusZero (m .body) ≡ true → Declined
   unfolding causesIn act respond turnedDown says
   second-declines r its z =
       let v : ℕ → ℤ = λ i. getD values i (pos 0) in
-      let n = needs-none c o (entryIn bench maker) v m (m .body) refl z in
+      let n = needs-none c o (entryIn bench maker) v m z in
       let d = up-to c m (standingWith c o (entryIn bench maker) v m) its n (untaken c (m .body) r z) in
-      (rw (d .given) (d .among), rw (d .given, d .ours, d .no-store) refl)
+      record {
+        among = rw (d .given) (d .among);
+        of-n = rw (d .given) (d .of-n);
+        keeps = rw (d .given, d .ours, d .no-store) refl;
+        gone = rw (d .given, d .ours, d .no-store) refl;
+      }
 
   -- and only the second has that cause
   pub minus-zero-only : first tests ≡ refused 4 → (eqb (c .revision) 2 ≡ true) × (isFor c m ≡ true) × (asksMinusZero (m .body) ≡ true)
@@ -135,23 +143,14 @@ unfolding takesZero
 takes-any c b t = by-test (asksMinusZero b) (λ z. rw (z, t)) (λ z. rw z)
 
 standing-zero : (there : Bool) (r : Row) (o : Offer) (v : ℤ) (i : ℕ) (b : Body) → standing there r o v i (unsignedBody b) ≡ standing there r o v i b
-unfolding standing unsignedBody
-standing-zero there r o v i body.Status = refl
-standing-zero there r o v i body.Query = refl
-standing-zero there r o v i body.Up = refl
-standing-zero there r o v i body.Down = refl
-standing-zero there r o v i (body.Set x) = refl
-standing-zero there r o v i body.Store = refl
+unfolding standing
+standing-zero there r o v i = by-unsigned (λ b′ b. standing there r o v i b′ ≡ standing there r o v i b) (λ b. refl) (λ x. refl)
 
 bracket-zero : (some : Bool) (b : Body) → onBracket some (unsignedBody b) ≡ onBracket some b
-unfolding onBracket unsignedBody
-bracket-zero some body.Status = refl
-bracket-zero some body.Query = refl
-bracket-zero some body.Up = refl
-bracket-zero some body.Down = refl
-bracket-zero some (body.Set x) = refl
-bracket-zero some body.Store = refl
+unfolding onBracket
+bracket-zero some = by-unsigned (λ b′ b. onBracket some b′ ≡ onBracket some b) (λ b. refl) (λ x. refl)
 
+-- what is granted is the same whatever the message's own body is
 granted-zero : (m : Message) (r : Row) (o : Offer) (v : ℤ) (b : Body) → granted (unsignedZero m) r o v (unsignedBody b) ≡ granted m r o v b
 unfolding granted says accepts offers unsignedBody
 granted-zero m r o v body.Status = refl

@@ -31,7 +31,8 @@ pub enum Cause {
     MinusZero,
 }
 
-// How a message stands with the card, in the order of the tests: each is true where that test is passed, or its type doesn't make it.
+// How a message stands with the card, by what the sheets, the values and the offer say, in the order of the tests: each is true where that
+// test is passed, or its type doesn't make it. Whom it is for and minus zero are judged by the setup.
 pub struct Standing {
     pub offered: bool, // the identifier, for a Type 4
     pub exists: bool, // the row, or the scan

@@ -1,21 +1,20 @@
 -- Cards of two revisions, on words in which no Type 3 of minus zero is heard: they take the same turns, are refused alike, and give the
 -- same causes. Assumes nothing.
-use mathlib.Core.Path.{_≡_, refl, sym, ap, ap₂, _∙_}
-use mathlib.Core.Bool.{Bool, true, false, cond, not}
-use mathlib.Core.List.{List, [], _∷_, _++_}
+use mathlib.Core.Path.{_≡_, refl, ap, ap₂, _∙_}
+use mathlib.Core.Bool.{true, false, cond}
+use mathlib.Core.List.{List, [], _∷_}
 use Prim.Native.Nat.{ℕ, _-_}
 use lib.Dec.{leb}
 use lib.IntN.{ℤ}
 use lib.ListN.{length}
 use Rattle.refusal.specs.Lists.{every}
-use Rattle.refusal.specs.Check.{Check, first, decided}
+use Rattle.refusal.specs.Check.{Check, first}
 use Rattle.refusal.proofs.Logic.{ands, not-is, by-test}
 use Rattle.refusal.proofs.Checks.{by-first}
 use Rattle.message.specs.declared.Message.{Message}
 use Rattle.message.specs.declared.Parsed.{Parsed}
 use Rattle.message.specs.declared.Parsed.the-variants.{Heard, Unheard}
 use Rattle.message.specs.Message.{asksMinusZero, noMinusZero}
-use Rattle.hearing.specs.declared.Pending.{Pending}
 use Rattle.hearing.specs.declared.Action.{Action}
 use Rattle.hearing.specs.declared.Action.the-variants.{Ignore, Open, Add, Close, Drop}
 use Rattle.hearing.specs.Hearing.{openOf, actionOf, perform, hear, before, heardFrom}
@@ -24,13 +23,13 @@ use Rattle.act.specs.declared.Setup.{Setup}
 use Rattle.act.specs.declared.Offer.{Offer}
 use Rattle.act.specs.declared.Effect.{Effect}
 use Rattle.act.specs.Cause.{Why, because}
-use Rattle.act.specs.Act.{act, causesIn, ofRevision}
+use Rattle.act.specs.Act.{ofRevision}
 use Rattle.act.proofs.Zeros.{revisions-act, revisions-cause, names-revised}
 use Rattle.card.specs.declared.Card.{Card}
 use Rattle.card.specs.Turn.{Turn, effectOf, turned, turn, stored, Played, stopped, after, play}
 use Rattle.card.specs.Cause.{whyClosed, whyAfter, whyTo}
 use Rattle.card.specs.Refusals.{isRevision, soundSetup, soundCard, soundScan, cardChecks, stepChecks}
-use Rattle.card.specs.Calls.{After, revised, revisedAfter, kept, WordAnswer, answered, stepCall, Took, ended, runCall}
+use Rattle.card.specs.Calls.{revised, revisedAfter, answered, stepCall, ended, runCall}
 
 -- no minus zero is heard: of the first message, and of the others
 abbrev Unsigned : Parsed → Type 0

@@ -1,11 +1,11 @@
 -- What a sound card, a sound offer and a sound scan are, by their parts, and what a word leaves of a sound card with sound values: both
 -- are sound again, no place without a row is touched, and what the card says is an answer as the reader knows them. Assumes nothing.
 use mathlib.Core.Path.{_≡_, refl, sym, ap, _∙_, subst}
-use mathlib.Core.Bool.{Bool, true, false, not, _||_, false≢true}
+use mathlib.Core.Bool.{Bool, true, false, not, _&&_, _||_, false≢true}
 use mathlib.Core.List.{List}
 use Prim.Native.Nat.{ℕ, zero, suc, _+_, _<_, _≤_}
 use native.Mathlib.Omega.{arith}
-use borrow.Author.Tests.{eqb-true, ltb-true, ltb-false}
+use borrow.Author.Tests.{eqb-true, ne-eqb, ltb-true, ltb-false}
 use lib.Dec.{ltb, eqb}
 use lib.IntN.{ℤ, pos}
 use lib.ListN.{getD}
@@ -62,6 +62,13 @@ parts-card c p = and-both (p .is-set) (p .is-open)
 pub setup-sound : (s : Setup) → isLetter (s .letter) ≡ true → isAddress (s .address) ≡ true → isRevision (s .revision) ≡ true → soundSetup s ≡ true
 unfolding soundSetup
 setup-sound s p q r = and-both (and-both p q) r
+
+-- a card of another revision isn't sound
+pub unknown-revision : (c : Card) → (c .setup .revision ≡ 1 → ⊥) → (c .setup .revision ≡ 2 → ⊥) → soundCard c ≡ false
+unfolding soundCard soundSetup isRevision
+unknown-revision c f g =
+    rw (ne-eqb (c .setup .revision) 1 f, ne-eqb (c .setup .revision) 2 g)
+    (by-test (isLetter (c .setup .letter) && isAddress (c .setup .address)) (λ t. rw t) (λ t. rw t))
 
 pub first-revision : isRevision 1 ≡ true
 unfolding isRevision

@@ -38,11 +38,16 @@ use Rattle.act.proofs.Judged.{scan-responds, row-responds}
 use Rattle.act.proofs.OnOffer.{act-neighbour}
 use Rattle.card.specs.declared.Card.{Card}
 use Rattle.card.specs.Inner.{isScan}
-use Rattle.card.specs.Turn.{Turn, replyOf, effectOf, withBoth, turned, turn}
+use Rattle.card.specs.Turn.{Turn, replyOf, effectOf, withBoth, turned, turn, stored}
 
 -- a word that draws nothing and stores nothing
 abbrev pub stays : Card → Turn
 stays c = record { card = c; reply = []; store = Keep }
+
+-- nothing is stored
+pub stored-keep : (values : List ℤ) → stored values Keep ≡ values
+unfolding stored
+stored-keep values = refl
 
 -- document 02, ticket 1: "Longest reply becomes 33 bytes"
 pub reply-length : (s : Said) → length (replyOf s) ≤ longestReply
@@ -96,7 +101,7 @@ module _ (bench maker : List ℤ) where
       unfolding turn turned
       turn-card = refl
 
-      turn-reply : turn bench maker c values w .reply ≡ replyOf (effects (hear (c .pending) w .message) .said)
+      pub turn-reply : turn bench maker c values w .reply ≡ replyOf (effects (hear (c .pending) w .message) .said)
       unfolding turn turned
       turn-reply = refl
 

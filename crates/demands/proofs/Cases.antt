@@ -11,13 +11,12 @@ use lib.ListN.{length}
 use Rattle.refusal.specs.Lists.{every, same}
 use Rattle.refusal.specs.Buffer.{laid}
 use Rattle.refusal.specs.Call.{writes}
-use Rattle.refusal.specs.Check.{Check}
-use Rattle.refusal.specs.Check as check
+use Rattle.refusal.specs.Check.{Check, first}
 use Rattle.refusal.proofs.Logic.{allBelow}
 use Rattle.wire.specs.Text.{chars}
 use Rattle.wire.specs.Word.{evenParity, withParity, received, travelling, validWords}
 use Rattle.number.specs.Number.{inRange, isMultiple, cutDown, cut, raised, lowered}
-use Rattle.number.specs.Data.{digit, isDigit, digitOf, fits, fitsNumeral, spellNumeral, codeOf, fiveDigits, spellData, spellAll, decode, readNext, readFrom, readData}
+use Rattle.number.specs.Data.{digit, isDigit, digitOf, fits, spellNumeral, codeOf, fiveDigits, spellData, spellAll, decode, readNext, readFrom, readData}
 use Rattle.message.specs.Message.{isLetter, isAddress, isIdentifier, asksMinusZero}
 use Rattle.message.specs.Prefix.{extendIdentifier, extendAddress, extendData, extendBody, extend, extendAll, finish, parse}
 use Rattle.message.specs.Position.{isWrong, matched, position}
@@ -38,18 +37,19 @@ use Rattle.act.specs.declared.Offer.the-variants.{Nothing}
 use Rattle.act.specs.declared.causes.Cause.the-variants.{None, NoMessageClosed, NotWellFormed}
 use Rattle.act.specs.Cause.{why, whyOf, isFor, isOffered, standing, onBracket, takesZero, causes}
 use Rattle.act.specs.Act.{namesFrom, valueOf, scanOf, says, accepts, shownBy, offers, granted, turnedDown, respond, act, causesIn}
+use Rattle.card.specs.declared.Card.{Card}
 use Rattle.card.specs.Turn.{effectOf, turned, turn, stored, play}
 use Rattle.card.specs.Cause.{whyClosed, whyAfter, whyTo}
 use Rattle.card.specs.Refusals.{isRevision, soundScan, soundSetup, soundCard, offerable, soundOffer, cardChecks, stepChecks}
 use Rattle.card.specs.Calls.{stepCall, runCall}
 use Rattle.demands.specs.Terms.{Sound}
 use Rattle.demands.specs.Causes.{sameWhy, isAmong, gaveCause, drawsIt, causeCases, everyCause, hasCase}
-use Rattle.demands.specs.Zeros.{zeroForms, isOwnForm}
-use Rattle.demands.specs.Bench.{benchRows, benchValues, cardWith, benchCard, Case, benchCases, twentyNeighbours, moreCases, firstCases, secondCases, scanCases, noReplies, timeRow, scanValues, equalZ, took, answersAll, passesOn, passes, passesScan, isNoReply}
+use Rattle.demands.specs.Zeros.{zeroForms, wroteThese, isOwnForm}
+use Rattle.demands.specs.Bench.{benchRows, benchValues, cardWith, Case, benchCases, twentyNeighbours, moreCases, firstCases, secondCases, scanCases, noReplies, timeRow, scanValues, equalZ, took, answersAll, passesOn, passes, passesScan, isNoReply}
 
 -- what a table computes through
 computed : List Case → Bool
-unfolding ones onesIn every same laid check.first evenParity withParity received travelling validWords inRange isMultiple cutDown cut raised lowered digit isDigit digitOf fits codeOf fiveDigits spellData decode readNext readFrom readData isLetter isAddress isIdentifier extendIdentifier extendAddress extendData extendBody extend extendAll finish parse spellAddress none added openOf opening continuing actionOf perform hear plainChar plain zeros soundPending rows soundIdentifier soundNumbers soundRow soundRows soundSheet codeIs lookup.isFor rowAmong placeAmong rowIn placeIn hasRow rowOf numbersOf entryOf entryIn isReadable isWritable isReadWrite fitsRow fitsPlace soundFrom soundValues spellContent spellAnswer says accepts shownBy offers granted isOffered standing onBracket isFor takesZero asksMinusZero causes turnedDown respond act effectOf turned turn stored play isRevision soundSetup soundCard offerable soundOffer isReadableEntry namesFrom soundScan cardChecks runCall benchRows benchValues cardWith benchCard equalZ took answersAll passesOn
+unfolding ones onesIn every same laid first evenParity withParity received travelling validWords inRange isMultiple cutDown cut raised lowered digit isDigit digitOf fits codeOf fiveDigits spellData decode readNext readFrom readData isLetter isAddress isIdentifier extendIdentifier extendAddress extendData extendBody extend extendAll finish parse spellAddress none added openOf opening continuing actionOf perform hear plainChar plain zeros soundPending rows soundIdentifier soundNumbers soundRow soundRows soundSheet codeIs lookup.isFor rowAmong placeAmong rowIn placeIn hasRow rowOf numbersOf entryOf entryIn isReadable isWritable isReadWrite fitsRow fitsPlace soundFrom soundValues spellContent spellAnswer says accepts shownBy offers granted isOffered standing onBracket isFor takesZero asksMinusZero causes turnedDown respond act effectOf turned turn stored play isRevision soundSetup soundCard offerable soundOffer isReadableEntry namesFrom soundScan cardChecks runCall benchRows benchValues cardWith equalZ took answersAll passesOn
 computed xs = every passes xs
 
 -- cases a to l
@@ -58,16 +58,16 @@ unfolding computed benchCases
 bench = refl
 
 -- both zeros, on the first revision and on the second
-pub first : every passes firstCases ≡ true
+pub zeros-first : every passes firstCases ≡ true
 unfolding computed firstCases
-first = refl
+zeros-first = refl
 
-pub second : every (passesOn 2) secondCases ≡ true
+pub zeros-second : every (passesOn 2) secondCases ≡ true
 unfolding computed secondCases
-second = refl
+zeros-second = refl
 
 pub own-forms : every isOwnForm zeroForms ≡ true
-unfolding computed heardFrom before heard kindOf spellKind spellOpen spell spellNumeral wordsOf normal normalCall writes isOwnForm zeroForms
+unfolding computed heardFrom before heard kindOf spellKind spellOpen spell spellNumeral wordsOf normal normalCall writes wroteThese isOwnForm zeroForms
 own-forms = refl
 
 -- the second table
@@ -115,6 +115,9 @@ unfolding computed sameWhy isAmong everyCause
 places-known = refl
 
 -- the claims on sound cards, sheets and values are not empty: those of the bench are sound
+abbrev benchCard : Card
+benchCard = cardWith 1 ""
+
 sounds : Bool
 unfolding computed
 sounds = soundCard benchCard && (soundSheet [] && soundSheet benchRows) && soundOffer [] benchRows Nothing && soundScan [] benchRows (benchCard .setup) && soundValues [] benchRows (benchValues (pos 20))

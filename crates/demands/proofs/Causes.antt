@@ -153,7 +153,7 @@ module _ (bench maker : List ℤ) (c : Card) (values : List ℤ) where
       small : w ≤ 256
       small = valid-first w [] (passed-sound c bench maker values (w ∷ []) (step-made .passed) .words-valid) .0
 
-      served-is : s ≡ record { bytes = length (turn bench maker c values w .reply); cause = whyTo bench maker c values w }
+      pub served-is : s ≡ record { bytes = length (turn bench maker c values w .reply); cause = whyTo bench maker c values w }
       served-is = gave-is (sym g ∙ ap (λ (a : After WordAnswer). a .outcome) (step-made .leaves))
 
       pub cause-is : s .cause ≡ whyTo bench maker c values w

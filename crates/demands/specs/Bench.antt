@@ -40,10 +40,6 @@ unfoldable pub cardWith : ℕ → String → Card
 cardWith n names =
     record { setup = record { letter = code "L"; address = 7; count = length (chars names); scan = take mostNamed (chars names ++ replicate mostNamed 0); revision = n }; pending = none; offer = Nothing }
 
--- document 02, ticket 5: "Bench case i holds for the first revision"
-unfoldable pub benchCard : Card
-benchCard = cardWith 1 ""
-
 -- a message as sent, and what is answered to it
 pub record Exchange : Type 0 where
   pub sent : String
@@ -204,7 +200,7 @@ answersAll bench c values (x ∷ xs) last =
 unfoldable pub passesOn : ℕ → Case → Bool
 passesOn n x = answersAll [] (cardWith n "") (benchValues (x .first)) (x .exchanges) (benchValues (x .last))
 
--- the table's own is the first
+-- document 02, ticket 5: "Bench case i holds for the first revision"
 abbrev pub passes : Case → Bool
 passes x = passesOn 1 x
 

@@ -93,16 +93,16 @@ pub record CauseCase : Type 0 where
   pub sent : String
   pub cause : Cause
 
--- from the first revision, and from the second
-unfoldable pub draws : String → String → Cause → CauseCase
-draws names sent x = record { revision = 1; names = names; sent = sent; cause = x }
+unfoldable pub drawsOn : ℕ → String → String → Cause → CauseCase
+drawsOn n names sent x = record { revision = n; names = names; sent = sent; cause = x }
 
-unfoldable pub second : String → String → Cause → CauseCase
-second names sent x = record { revision = 2; names = names; sent = sent; cause = x }
+-- from the first revision
+abbrev pub draws : String → String → Cause → CauseCase
+draws names sent x = drawsOn 1 names sent x
 
 -- every cause, and every position; then messages with several causes, which give the first; then both zeros
 unfoldable pub causeCases : List CauseCase
-unfolding draws second
+unfolding drawsOn
 causeCases =
     draws "" "L7M?*" None
     ∷ draws "" "L7x?*" NoSuchIdentifier
@@ -133,16 +133,16 @@ causeCases =
     ∷ draws "" "L7m#10030*" WrongDecimals
     ∷ draws "" "L7J#00006*" None
     ∷ draws "" "L7Z#00005*" OutOfRange
-    ∷ second "" "L7J#00006*" MinusZero
-    ∷ second "" "L7J#00001*" None
-    ∷ second "" "L7Z#00005*" MinusZero
-    ∷ second "" "L7Z#00000*" OutOfRange
-    ∷ second "" "L7J#00005*" WrongDecimals
-    ∷ second "" "L7M#00006*" Access
-    ∷ second "" "L7x#00006*" NoSuchIdentifier
-    ∷ second "" "L8J#00006*" NotForThisCard
-    ∷ second "MJmM" "L7]#00005*" Access
-    ∷ second "" "L7]#00005*" NoSuchIdentifier
+    ∷ drawsOn 2 "" "L7J#00006*" MinusZero
+    ∷ drawsOn 2 "" "L7J#00001*" None
+    ∷ drawsOn 2 "" "L7Z#00005*" MinusZero
+    ∷ drawsOn 2 "" "L7Z#00000*" OutOfRange
+    ∷ drawsOn 2 "" "L7J#00005*" WrongDecimals
+    ∷ drawsOn 2 "" "L7M#00006*" Access
+    ∷ drawsOn 2 "" "L7x#00006*" NoSuchIdentifier
+    ∷ drawsOn 2 "" "L8J#00006*" NotForThisCard
+    ∷ drawsOn 2 "MJmM" "L7]#00005*" Access
+    ∷ drawsOn 2 "" "L7]#00005*" NoSuchIdentifier
     ∷ []
 
 -- one of the cases has it

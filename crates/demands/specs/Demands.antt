@@ -27,8 +27,8 @@ pub record Demands : Type 0 where
   -- the twenty messages of that table are heard
   pub twenty-heard : length (heard (travelling (chars twentyNeighbours))) ≡ 20
   -- both zeros, on the first revision and on the second
-  pub first : every passes firstCases ≡ true
-  pub second : every (passesOn 2) secondCases ≡ true
+  pub zeros-first : every passes firstCases ≡ true
+  pub zeros-second : every (passesOn 2) secondCases ≡ true
   -- the scan
   pub scan : every passesScan scanCases ≡ true
   pub no-replies : every isNoReply noReplies ≡ true

@@ -11,7 +11,7 @@ use Rattle.message.specs.Spell.{spell}
 use Rattle.hearing.specs.Hearing.{heard}
 
 -- document 01: "The heard messages, in order, each with one-digit addresses under 10, canonical data as replies use it, nothing
--- between." Words below 256 are the bytes.
+-- between."; document 02, ticket 5: "Heard messages now keep the sign of zero, and the normal form keeps it". Words below 256 are the bytes.
 unfoldable pub wordsOf : List Message → List ℕ
 wordsOf [] = []
 wordsOf (m ∷ ms) = travelling (spell m) ++ wordsOf ms

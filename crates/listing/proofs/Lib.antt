@@ -8,3 +8,4 @@ pub mod Messages
 pub mod Spoken
 pub mod Cases
 pub mod Sessions
+pub mod Zeros

@@ -7,13 +7,16 @@ use Prim.Native.Char.{code}
 use native.Mathlib.Omega.{arith}
 use borrow.Author.Tests.{leb-true, le-leb, lt-leb, eqb-true, ne-eqb}
 use lib.Dec.{eqb}
+use lib.IntN.{pos}
 use Rattle.refusal.proofs.Logic.{ands, and-both, not-is, is-not, or-cases}
-use Rattle.number.specs.Data.{isDigit, asDecimal, fitsNumeral}
+use Rattle.number.specs.declared.Numeral.{Numeral}
+use Rattle.number.specs.Data.{isDigit, withDecimals, asDecimal, numeral, minusZero, fitsNumeral}
 use Rattle.number.proofs.Digits.{digit-ends}
 use Rattle.number.proofs.Reading.{fits-value, numeral-fits}
 use Rattle.message.specs.declared.Body.{Body}
 use Rattle.message.specs.declared.Body.the-variants.{Status, Query, Up, Down, Set, Store}
 use Rattle.message.specs.declared.Message.{Message}
+use Rattle.message.specs.Prefix.{message}
 use Rattle.message.specs.Message.{star, question, isLetter, isAddress, isIdentifier, fitsBody, asksMinusZero, unsignedBody, unsignedZero, isMessage}
 
 -- a message as heard, by its parts
@@ -58,15 +61,32 @@ parts-body i Down p = is-not p
 parts-body i (Set x) p = and-both (is-not (p .0)) (p .1)
 parts-body i Store p = is-not p
 
--- with zero in place of minus zero it is a message too, and another one
-unsigned-fits : (i : ℕ) (b : Body) → BodyParts i b → BodyParts i (unsignedBody b)
+-- ---- both zeros
+
+-- with zero in place of minus zero, only a Type 3 is another
+pub by-unsigned : (P : Body → Body → Type 0) → ((b : Body) → P b b) → ((x : Numeral) → P (Set (numeral (asDecimal x))) (Set x)) → (b : Body) → P (unsignedBody b) b
 unfolding unsignedBody
-unsigned-fits i Status p = p
-unsigned-fits i Query p = p
-unsigned-fits i Up p = p
-unsigned-fits i Down p = p
-unsigned-fits i (Set x) p = (p .0, numeral-fits (asDecimal x) (fits-value x (p .1)))
-unsigned-fits i Store p = p
+by-unsigned P f g Status = f Status
+by-unsigned P f g Query = f Query
+by-unsigned P f g Up = f Up
+by-unsigned P f g Down = f Down
+by-unsigned P f g (Set x) = g x
+by-unsigned P f g Store = f Store
+
+-- only a Type 3 can be of minus zero
+pub asks-set : (b : Body) → asksMinusZero b ≡ true → (x : Numeral) × (b ≡ Set x)
+unfolding asksMinusZero
+asks-set Status z = absurd (false≢true z)
+asks-set Query z = absurd (false≢true z)
+asks-set Up z = absurd (false≢true z)
+asks-set Down z = absurd (false≢true z)
+asks-set (Set x) z = (x, refl)
+asks-set Store z = absurd (false≢true z)
+
+-- one of zero is a message too
+unsigned-fits : (i : ℕ) (b : Body) → BodyParts i b → BodyParts i (unsignedBody b)
+unsigned-fits i =
+    by-unsigned (λ b′ b. BodyParts i b → BodyParts i b′) (λ b p. p) (λ x p. (p .0, numeral-fits (asDecimal x) (fits-value x (p .1))))
 
 pub unsigned-message : (m : Message) → isMessage m ≡ true → isMessage (unsignedZero m) ≡ true
 unsigned-message m e =
@@ -78,6 +98,12 @@ unsigned-message m e =
       fits-body = parts-body (m .identifier) (unsignedBody (m .body)) (unsigned-fits (m .identifier) (m .body) (body-parts (m .identifier) (m .body) (p .fits-body)));
     })
 
+-- and one of minus zero exactly where one of zero is
+pub zero-message : (l a i d : ℕ) → isMessage (message l a i (Set (minusZero d))) ≡ isMessage (message l a i (Set (numeral (withDecimals (pos 0) d))))
+unfolding isMessage fitsBody fitsNumeral
+zero-message l a i d = refl
+
+-- and another one
 asks-none : (b : Body) → asksMinusZero (unsignedBody b) ≡ false
 unfolding asksMinusZero unsignedBody
 asks-none Status = refl
@@ -89,6 +115,8 @@ asks-none Store = refl
 
 pub unsigned-other : (m : Message) → asksMinusZero (m .body) ≡ true → m ≡ unsignedZero m → ⊥
 unsigned-other m z e = false≢true (sym (asks-none (m .body)) ∙ sym (ap (λ (x : Message). asksMinusZero (x .body)) e) ∙ z)
+
+-- ---- parts by themselves
 
 pub letter-is : isLetter (code "L") ≡ true
 unfolding isLetter

@@ -8,7 +8,7 @@ use Prim.Native.Char.{code}
 use native.Mathlib.Omega.{arith}
 use borrow.Author.Tests.{le-leb, ltb-false}
 use lib.Dec.{leb, ltb, eqb}
-use lib.IntN.{pos, negℤ}
+use lib.IntN.{pos}
 use lib.ListN.{length, length-append}
 use Rattle.refusal.proofs.Logic.{choice}
 use Rattle.number.specs.declared.Data.{Data}

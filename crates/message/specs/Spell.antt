@@ -1,4 +1,4 @@
--- Spelling a message: one-digit addresses under 10, canonical data, and `*` behind it; and the call that writes it.
+-- Spelling a message: one-digit addresses under 10, canonical data with the sign of zero, and `*` behind it; and the call that writes it.
 use mathlib.Core.Bool.{cond, not}
 use mathlib.Core.List.{List, [], _∷_, _++_}
 use Prim.Native.Nat.{ℕ, _/_, _%_}

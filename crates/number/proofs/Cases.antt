@@ -1,12 +1,12 @@
 -- The numbers of the bench cases, by computing the definitions: a definition that rounds otherwise, leaves the range's end
--- out, writes minus zero or reads code 4 or 9 fails here. Assumes nothing.
+-- out, takes one zero for the other or reads code 4 or 9 fails here. Assumes nothing.
 use mathlib.Core.Path.{_≡_, refl}
 use mathlib.Core.Bool.{true, false}
 use mathlib.Core.List.{[], _∷_}
 use lib.IntN.{pos, negsuc}
 use Rattle.number.specs.declared.Data.the-variants.{Partial, Number, Invalid}
 use Rattle.number.specs.Number.{inRange, isMultiple, cutDown, cut}
-use Rattle.number.specs.Data.{digit, isDigit, digitOf, fits, codeOf, fiveDigits, spellData, decode, readNext, readFrom, withDecimals, withZero, numeral, minusZero, fitsNumeral, spellNumeral, readData}
+use Rattle.number.specs.Data.{digit, isDigit, digitOf, fits, codeOf, fiveDigits, spellData, decode, readNext, readFrom, withDecimals, withSign, numeral, minusZero, fitsNumeral, spellNumeral, readData}
 
 -- case e: 2.3 is cut to 2.0 and not rounded to 2.5, and is written 00201
 pub case-e : cut (pos 23) (pos 5) ≡ pos 20
@@ -66,7 +66,7 @@ unfolding readData readFrom readNext decode isDigit digitOf
 three-decimals = refl
 
 -- only zero is minus zero
-pub not-zero : fitsNumeral (withZero (withDecimals (pos 5) 1) true) ≡ false
+pub not-zero : fitsNumeral (withSign (withDecimals (pos 5) 1) true) ≡ false
 unfolding fitsNumeral fits
 not-zero = refl
 

@@ -2,7 +2,7 @@
 -- the number again; what is read so far is always the last digits of its value (`Read`, kept by each character), so what
 -- is read to the end fits, and is written as the same characters. Assumes nothing.
 use mathlib.Core.Path.{_≡_, refl, sym, ap, ap₂, _∙_, subst}
-use mathlib.Core.Bool.{Bool, true, false, not, _&&_, _||_}
+use mathlib.Core.Bool.{Bool, true, false, not, _&&_, _||_, false≢true}
 use mathlib.Core.List.{List, [], _∷_, _++_, append-assoc, append-nil}
 use Prim.Native.Nat.{ℕ, zero, suc, _+_, _-_, _*_, _/_, _%_, _^_, _≤_, _<_}
 use native.Mathlib.Nat.{pow-suc, pow-le-pow-right}
@@ -17,7 +17,7 @@ use Rattle.number.specs.declared.Data.{Data}
 use Rattle.number.specs.declared.Decimal.{Decimal}
 use Rattle.number.specs.declared.Numeral.{Numeral}
 use Rattle.number.specs.declared.Data.the-variants.{Partial, Number, Invalid}
-use Rattle.number.specs.Data.{digit, isDigit, digitOf, withDecimals, fits, withZero, isMinusZero, asDecimal, numeral, minusZero, fitsNumeral, codeOf, fiveDigits, spellData, spellNumeral, negative, decode, start, readNext, readFrom, readData}
+use Rattle.number.specs.Data.{digit, isDigit, digitOf, withDecimals, fits, withSign, isMinusZero, asDecimal, numeral, fitsNumeral, codeOf, fiveDigits, spellData, spellNumeral, negative, decode, start, readNext, readFrom, readData}
 use Rattle.number.proofs.Signed.{natAbs-minus}
 use Rattle.number.proofs.Digits.{digit-is, digit-back, digit-below, digit-again, AllDigits}
 
@@ -34,7 +34,7 @@ pub within-fits : (x : Decimal) → natAbs (x .number) ≤ 9999 → x .decimals 
 unfolding fits
 within-fits x h k = and-both (le-leb (natAbs (x .number)) 9999 h) (le-leb (x .decimals) 3 k)
 
--- a number that is no minus zero, and minus zero
+-- a number as a message has it
 pub fits-value : (x : Numeral) → fitsNumeral x ≡ true → fits (asDecimal x) ≡ true
 unfolding fitsNumeral
 fits-value x e = search ands
@@ -42,10 +42,6 @@ fits-value x e = search ands
 pub numeral-fits : (x : Decimal) → fits x ≡ true → fitsNumeral (numeral x) ≡ true
 unfolding fitsNumeral
 numeral-fits x e = and-both e refl
-
-pub minus-zero-fits : (d : ℕ) → d ≤ 3 → fitsNumeral (minusZero d) ≡ true
-unfolding fitsNumeral
-minus-zero-fits d h = and-both (within-fits (withDecimals (pos 0) d) (lit≤ tt) h) refl
 
 -- ---- one character more
 
@@ -70,6 +66,9 @@ decode-neg m d h =
   where
     back : (d : ℕ) → d + 5 - 5 ≡ d
     back d = omega arith
+
+suc-not-zero : (n : ℕ) → eqb (suc n) 0 ≡ false
+suc-not-zero n = ne-eqb (suc n) 0 (λ (h : suc n ≡ 0). omega arith)
 
 -- ---- read what is written
 
@@ -112,37 +111,42 @@ written (pos n) d e =
 written (negsuc n) d e =
     let w = fits-within (withDecimals (negsuc n) d) e in
     read-code (suc n) (d + 5) (w .0) (omega (arith, w .1)) ∙ decode-neg (suc n) d (w .1)
-    ∙ ap (λ (z : Bool). Number (withZero (withDecimals (negsuc n) d) z)) (some n)
-  where
-    some : (n : ℕ) → eqb (suc n) 0 ≡ false
-    some n = ne-eqb (suc n) 0 (λ (h : suc n ≡ 0). omega arith)
+    ∙ ap (λ (z : Bool). Number (withSign (withDecimals (negsuc n) d) z)) (suc-not-zero n)
 
 -- a number is never written as minus zero
 pub read-number : (x : Decimal) → fits x ≡ true → readData (spellData x) ≡ Number (numeral x)
 read-number x e = written (x .number) (x .decimals) e
 
-only-zero : (n : ℤ) → eqb (natAbs n) 0 ≡ true → n ≡ pos 0
-only-zero (pos n) e = ap pos (eqb-true n 0 e)
-only-zero (negsuc n) e = absurd (never n (eqb-true (suc n) 0 e))
-  where
-    never : (n : ℕ) → suc n ≡ 0 → ⊥
-    never n h = omega arith
+is-zero : (n : ℤ) → eqb (natAbs n) 0 ≡ true → n ≡ pos 0
+is-zero (pos n) e = ap pos (eqb-true n 0 e)
+is-zero (negsuc n) e = absurd (false≢true (sym (suc-not-zero n) ∙ e))
 
-signed : (v : Decimal) (z : Bool) → fitsNumeral (withZero v z) ≡ true
-    → readData (spellNumeral (withZero v z)) ≡ Number (withZero v z)
+-- only zero is minus zero
+pub only-zero : (x : Numeral) → fitsNumeral x ≡ true → isMinusZero x ≡ true → x .number ≡ pos 0
+unfolding fitsNumeral
+only-zero x e z = is-zero (x .number) (sym (rw z) ∙ and-right (fits (asDecimal x)) (not (isMinusZero x) || eqb (natAbs (x .number)) 0) e)
+
+signed : (v : Decimal) (z : Bool) → fitsNumeral (withSign v z) ≡ true
+    → readData (spellNumeral (withSign v z)) ≡ Number (withSign v z)
 unfolding spellNumeral spellData fitsNumeral
 signed v false e = read-number v (search ands)
 signed v true e =
-    let zero-is : v .number ≡ pos 0 = only-zero (v .number) (search ands) in
+    let zero-is : v .number ≡ pos 0 = is-zero (v .number) (search ands) in
     let w = fits-within v (search ands) in
     ap (λ (n : ℤ). readData (fiveDigits (natAbs n) (v .decimals + 5))) zero-is
     ∙ read-code 0 (v .decimals + 5) (lit≤ tt) (omega (arith, w .1))
     ∙ decode-neg 0 (v .decimals) (w .1)
-    ∙ ap (λ (n : ℤ). Number (withZero (withDecimals n (v .decimals)) true)) (sym zero-is)
+    ∙ ap (λ (n : ℤ). Number (withSign (withDecimals n (v .decimals)) true)) (sym zero-is)
 
 -- reading what is written gives what was written, minus zero too
 pub read-written : (x : Numeral) → fitsNumeral x ≡ true → readData (spellNumeral x) ≡ Number x
 read-written x e = signed (asDecimal x) (isMinusZero x) e
+
+-- two that are written alike are the same, decimals and sign of zero too
+pub numeral-injective : (x y : Numeral) → fitsNumeral x ≡ true → fitsNumeral y ≡ true → spellNumeral x ≡ spellNumeral y → x ≡ y
+numeral-injective x y p q h =
+    let same : Number x ≡ Number y = sym (read-written x p) ∙ ap readData h ∙ read-written y q in
+    cc
 
 -- two numbers that are written alike are the same, decimals too
 pub spell-injective : (x y : Decimal) → fits x ≡ true → fits y ≡ true → spellData x ≡ spellData y → x ≡ y
@@ -194,7 +198,7 @@ five-are n c e =
 below : (n k : ℕ) → 5 ≤ k → spellNumeral (negative n (k - 5)) ≡ fiveDigits n k
 unfolding spellNumeral spellData codeOf
 below zero k h = ap (fiveDigits 0) (omega arith)
-below (suc n) k h = rw (ne-eqb (suc n) 0 (λ (e : suc n ≡ 0). omega arith)) (ap (fiveDigits (suc n)) (omega arith))
+below (suc n) k h = rw (suc-not-zero n) (ap (fiveDigits (suc n)) (omega arith))
 
 negative-fits : (n d : ℕ) → n ≤ 9999 → d ≤ 3 → fitsNumeral (negative n d) ≡ true
 unfolding fitsNumeral

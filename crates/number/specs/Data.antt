@@ -28,8 +28,8 @@ unfoldable pub fits : Decimal → Bool
 fits x = leb (natAbs (x .number)) 9999 && leb (x .decimals) 3
 
 -- a number as a message has it; document 02, ticket 5: "everything that reads numbers must say which it had", minus zero or zero
-abbrev pub withZero : Decimal → Bool → Numeral
-withZero x z = record { number = x .number; decimals = x .decimals; «minus_zero» = z }
+abbrev pub withSign : Decimal → Bool → Numeral
+withSign x z = record { number = x .number; decimals = x .decimals; «minus_zero» = z }
 
 abbrev pub isMinusZero : Numeral → Bool
 isMinusZero x = x .«minus_zero»
@@ -40,10 +40,10 @@ asDecimal x = withDecimals (x .number) (x .decimals)
 
 -- a number that is no minus zero, and minus zero with so many decimals
 abbrev pub numeral : Decimal → Numeral
-numeral x = withZero x false
+numeral x = withSign x false
 
 abbrev pub minusZero : ℕ → Numeral
-minusZero d = withZero (withDecimals (pos 0) d) true
+minusZero d = withSign (withDecimals (pos 0) d) true
 
 -- what five digits can say: only zero is minus zero
 unfoldable pub fitsNumeral : Numeral → Bool
@@ -72,7 +72,7 @@ spellNumeral x = fiveDigits (natAbs (x .number)) (cond (isMinusZero x) (x .decim
 
 -- the negative of m; document 02, ticket 5: "The digit reader must now tell minus zero from zero"
 abbrev pub negative : ℕ → ℕ → Numeral
-negative m d = withZero (withDecimals (negℤ (pos m)) d) (eqb m 0)
+negative m d = withSign (withDecimals (negℤ (pos m)) d) (eqb m 0)
 
 -- document 01: "0 to 3 is that many decimals, positive; 5 to 8 is code minus 5 decimals, negative. Code 4 or 9 is not well formed."
 unfoldable pub decode : ℕ → ℕ → Data

@@ -1,7 +1,7 @@
 -- Tests of lists, over any element: of each of a list, of two lists, and what a loop that tests carries. Assumes nothing.
 use mathlib.Core.Path.{_≡_, refl, sym, ap, ap₂, _∙_, subst}
 use mathlib.Core.Bool.{Bool, true, false, _&&_, false≢true, and-assoc, and-true}
-use mathlib.Core.List.{List, [], _∷_, _++_}
+use mathlib.Core.List.{List, [], _∷_, _++_, tail-eq-of-cons-eq}
 use Prim.Native.Nat.{ℕ, zero, suc, _+_, _<_, _≤_}
 use native.Mathlib.Numerals.{add-one}
 use native.Mathlib.Omega.{arith}
@@ -9,6 +9,11 @@ use lib.ListN.{length, getD, take, drop, set, replicate, drop-of-length-le}
 use lib.Seq.{drop-cons}
 use Rattle.refusal.specs.Lists.{every, same}
 use Rattle.refusal.proofs.Logic.{and-left, and-right, and-both}
+
+-- what is behind the same list
+pub append-cancel : {A : Type 0} (us : List A) {xs ys : List A} → us ++ xs ≡ us ++ ys → xs ≡ ys
+append-cancel [] e = e
+append-cancel (u ∷ us) e = append-cancel us (tail-eq-of-cons-eq e)
 
 module _ {A : Type 0} (f : A → Bool) where
   -- ---- a test of each

@@ -139,7 +139,7 @@ unfolding charactersOf travelling
 characters-back [] h = refl
 characters-back (c ∷ cs) h = ap₂ (λ (x : ℕ) (xs : List ℕ). x ∷ xs) (written-low c (h .0)) (characters-back cs (h .1))
 
-mark-small : (k : Mark) → markOf k < 128
+pub mark-small : (k : Mark) → markOf k < 128
 mark-small mark.Accepted = lit< tt
 mark-small mark.Offered = lit< tt
 mark-small mark.Declined = lit< tt

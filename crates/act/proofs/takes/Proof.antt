@@ -2,7 +2,6 @@
 use mathlib.Core.Path.{refl}
 use Rattle.message.specs.Message.{asksMinusZero}
 use Rattle.act.specs.Cause.{takesZero}
-use borrow.Author.Needs.{needs}
 use Rattle.act.proofs.takes.Statement.{statement}
 use Rattle.act.proofs.takes.Tie as tie
 

@@ -4,7 +4,7 @@ use Rattle.demands.proofs.demands.Statement.{statement}
 use Rattle.demands.proofs.demands.Tie as tie
 use Rattle.demands.specs.Demand2.{Demand2}
 use Rattle.demands.specs.Demands.{Demands}
-use Rattle.demands.proofs.Cases.{bench, more, first, second, twenty-heard, scan, no-replies}
+use Rattle.demands.proofs.Cases.{bench, more, zeros-first, zeros-second, twenty-heard, scan, no-replies}
 use Rattle.demands.proofs.Refusals.{demand-1}
 use Rattle.demands.proofs.Words.{writers-heard, run-steps}
 use Rattle.demands.proofs.Kept.{stays-sound}
@@ -38,8 +38,8 @@ all-hold = record {
   bench = bench;
   more = more;
   twenty-heard = twenty-heard;
-  first = first;
-  second = second;
+  zeros-first = zeros-first;
+  zeros-second = zeros-second;
   scan = scan;
   no-replies = no-replies;
 }

@@ -1,4 +1,4 @@
--- `row::is_row` meets its contract: twenty-two numbers, and the test of the first thirteen. Assumes nothing.
+-- `row::is_row` meets its contract: twenty-three numbers, and the test of the first thirteen. Assumes nothing.
 use mathlib.Core.Path.{sym, _∙_}
 use native.Mathlib.Omega.{arith}
 use borrow.Author.Tests.{eq-eqb, ne-eqb}

@@ -1,7 +1,6 @@
 -- `act::causes::first_cause` meets its contract: each test is a line of the list, and behind those that are passed the rest of the list
 -- decides. Assumes nothing.
 use mathlib.Core.Path.{_≡_, sym, ap, _∙_}
-use mathlib.Core.Bool.{true}
 use Prim.Native.Nat.{ℕ}
 use lib.ListN.{drop}
 use borrow.Author.Tests.{not-true, not-false}
