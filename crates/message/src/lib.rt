@@ -118,10 +118,16 @@ pub fn is_message(message: Message) -> bool
 {
     let identifier = message.identifier;
     let body = message.body;
-    is_letter(message.letter)
-        & is_address(message.address)
-        & is_identifier(identifier)
-        & fits_body(identifier, body)
+    if !is_letter(message.letter) {
+        return false;
+    }
+    if !is_address(message.address) {
+        return false;
+    }
+    if !is_identifier(identifier) {
+        return false;
+    }
+    fits_body(identifier, body)
 }
 
 fn heard(letter: u8, address: u8, identifier: u8, body: Body) -> Parsed
