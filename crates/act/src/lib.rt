@@ -22,7 +22,7 @@ pub mod causes;
 // The most identifiers that a scan names.
 pub const MOST_NAMED: usize = 5;
 
-// What a card is set to; the first `count` of `scan` are the identifiers that it names for its scan.
+// What a card is set to; the first `count` of `scan` are the identifiers that it names for its scan, and `revision` is 1 or 2 in a sound card.
 pub struct Setup {
     pub letter: u8,
     pub address: u8,

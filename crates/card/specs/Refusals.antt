@@ -27,11 +27,11 @@ use Rattle.card.specs.declared.Card.{Card}
 unfoldable pub isRevision : ℕ → Bool
 isRevision n = eqb n 1 || eqb n 2
 
--- document 01, number 1: "letter, address"
+-- document 01, number 1: "letter, address"; and the revision
 unfoldable pub soundSetup : Setup → Bool
 soundSetup s = isLetter (s .letter) && isAddress (s .address) && isRevision (s .revision)
 
--- document 01, number 1, in its first place: "letter, address, open message"
+-- document 01, number 1, in its first place: "letter, address, open message"; and the revision
 unfoldable pub soundCard : Card → Bool
 soundCard c = soundSetup (c .setup) && soundPending (c .pending)
 

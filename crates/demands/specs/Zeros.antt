@@ -47,7 +47,7 @@ pub record DataExact : Type 0 where
   -- what is written is read as it was, and what is read is written with the same characters
   pub read-written : (x : Numeral) → fitsNumeral x ≡ true → readData (spellNumeral x) ≡ Number x
   pub written-read : (cs : List ℕ) (x : Numeral) → readData cs ≡ Number x → (spellNumeral x ≡ cs) × (fitsNumeral x ≡ true)
-  -- only zero is minus zero: a message of any other isn't one, and is number 7
+  -- only zero is minus zero: with any other number it is no message, which the writer and the listing line refuse with number 7
   pub only-zero : (x : Numeral) → fitsNumeral x ≡ true → isMinusZero x ≡ true → x .number ≡ pos 0
   -- a number as a reply has it is never minus zero
   pub never-replied : (x : Decimal) → fits x ≡ true → readData (spellData x) ≡ Number (numeral x)
