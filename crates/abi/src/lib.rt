@@ -9,14 +9,13 @@ ghost use Rattle.refusal.specs.Refusal.{outcomeOf, numberOf};
 ghost use Rattle.refusal.specs.Check.{first};
 ghost use Rattle.refusal.specs.Buffer.{laid};
 ghost use Rattle.hearing.specs.Normal.{normalCall};
-ghost use Rattle.message.specs.Prefix.{message};
 ghost use Rattle.sheet.specs.Lookup.{shown};
 ghost use Rattle.reply.specs.Reply.{markOf};
 ghost use Rattle.reply.specs.Read.{readCall};
 ghost use Rattle.act.specs.Cause.{whyOf};
 ghost use Rattle.card.specs.Refusals.{cardChecks};
 ghost use Rattle.card.specs.Calls.{stepAfter, runAfter};
-ghost use Rattle.abi.specs.Result.{minusNumber, countResult, resultOf, filled, given, setOf, bodyOf, asked, writeAsked, lineAsked};
+ghost use Rattle.abi.specs.Result.{minusNumber, countResult, resultOf, filled, given, asked, writeAsked, lineAsked};
 ghost use Rattle.abi.specs.Rows.{pairs, answerRow, readInto, lookupInto};
 ghost use Rattle.abi.specs.Calls.{tooShort, oneWord, causeIn, stepOn, kavStep, manyWords, runOn, kavRun};
 use act::causes::Cause;
@@ -25,17 +24,16 @@ use card::Ran;
 use card::RunAnswer;
 use card::StepAnswer;
 use card::Stepped;
-use message::Body;
-use message::Message;
 use message::Parsed;
 use number::Decimal;
-use number::Numeral;
 use refusal::Refusal;
 use refusal::Verdict;
 use refusal::Written;
 use reply::Answer;
 use reply::Content;
 use reply::Reading;
+
+mod asking;
 
 // ---- results
 
@@ -64,94 +62,6 @@ fn result(answer: Written) -> i64
         Written::Refused(refusal) => minus_number(refusal),
         Written::Wrote(n) => count_result(n),
     }
-}
-
-// ---- what a host asks for
-
-fn heard(letter: u8, address: u8, identifier: u8, body: Body) -> Parsed
-    ensures { λ r. ⌜ r ≡ Parsed.Heard (message letter address identifier body) ⌝ }
-{
-    Parsed::Heard(Message {
-        letter,
-        address,
-        identifier,
-        body,
-    })
-}
-
-fn set_of(
-    letter: u8,
-    address: u8,
-    identifier: u8,
-    number: i32,
-    decimals: u32,
-    minus_zero: u32,
-) -> Parsed
-    ensures { λ r. ⌜ r ≡ setOf letter address identifier number decimals «minus_zero» ⌝ }
-{
-    if !((decimals <= 255) & (minus_zero <= 1)) {
-        return Parsed::Unheard;
-    }
-    let decimals = decimals as u8;
-    let minus_zero = minus_zero == 1;
-    let x = Numeral {
-        number,
-        decimals,
-        minus_zero,
-    };
-    heard(letter, address, identifier, Body::Set(x))
-}
-
-fn body_of(
-    letter: u8,
-    address: u8,
-    identifier: u8,
-    kind: u8,
-    number: i32,
-    decimals: u32,
-    minus_zero: u32,
-) -> Parsed
-    ensures { λ r. ⌜ r ≡ bodyOf letter address identifier kind number decimals «minus_zero» ⌝ }
-{
-    match kind {
-        b'?' => {
-            if identifier == b'?' {
-                heard(letter, address, identifier, Body::Status)
-            } else {
-                heard(letter, address, identifier, Body::Query)
-            }
-        }
-        b'+' => heard(letter, address, identifier, Body::Up),
-        b'-' => heard(letter, address, identifier, Body::Down),
-        b'I' => heard(letter, address, identifier, Body::Store),
-        b'#' => set_of(letter, address, identifier, number, decimals, minus_zero),
-        _ => Parsed::Unheard,
-    }
-}
-
-fn asked(
-    letter: u8,
-    address: u32,
-    identifier: u8,
-    kind: u8,
-    number: i32,
-    decimals: u32,
-    minus_zero: u32,
-) -> Parsed
-    ensures { λ r. ⌜ r ≡ asked letter address identifier kind number decimals «minus_zero» ⌝ }
-{
-    if 255 < address {
-        return Parsed::Unheard;
-    }
-    body_of(
-        letter,
-        address as u8,
-        identifier,
-        kind,
-        number,
-        decimals,
-        minus_zero,
-    )
 }
 
 // ---- rows of numbers
@@ -247,7 +157,7 @@ pub extern "C" fn kav_write(
 ) -> i64
     ensures { λ r. ⌜ filled r (now (out .exit)) ≡ given (writeAsked (asked letter address identifier kind number decimals «minus_zero») (now (out .entry))) ⌝ }
 {
-    match asked(
+    match asking::asked(
         letter,
         address,
         identifier,
@@ -276,7 +186,7 @@ pub extern "C" fn kav_line(
 ) -> i64
     ensures { λ r. ⌜ filled r (now (out .exit)) ≡ given (lineAsked at (asked letter address identifier kind number decimals «minus_zero») (now (out .entry))) ⌝ }
 {
-    match asked(
+    match asking::asked(
         letter,
         address,
         identifier,

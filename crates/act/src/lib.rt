@@ -5,8 +5,8 @@ ghost use lib.ListN.{getD};
 ghost use Rattle.number.specs.Data.{withDecimals};
 ghost use Rattle.sheet.specs.Inner.{entryAt};
 ghost use Rattle.act.specs.Cause.{rowOrZeros, isFor, takesZero};
-ghost use Rattle.act.specs.Act.{noEffect, silent, answerTo, says, accepts, shownBy, offers, valueOf, scanOf};
-ghost use Rattle.act.specs.Inner.{declines, query, moves, up, down, setTo, store, serve, declinesScan, serveScan, onScan, onRow};
+ghost use Rattle.act.specs.Act.{noEffect, silent, answerTo, says, accepts, shownBy, offers};
+ghost use Rattle.act.specs.Inner.{declines, query, moves, up, down, setTo, store, serve, onRow};
 use message::Body;
 use message::Message;
 use number::Decimal;
@@ -18,6 +18,7 @@ use sheet::Entry;
 use sheet::Row;
 
 pub mod causes;
+pub mod scan;
 
 // The most identifiers that a scan names.
 pub const MOST_NAMED: usize = 5;
@@ -68,7 +69,7 @@ pub fn no_effect(offer: Offer) -> Effect
 }
 
 // Silence, offer gone.
-fn silent() -> Effect
+pub(crate) fn silent() -> Effect
     ensures { λ r. ⌜ r ≡ silent ⌝ }
 {
     no_effect(Offer::Nothing)
@@ -87,7 +88,7 @@ fn answer_to(message: Message, mark: Mark, content: Content) -> Answer
 }
 
 // A reply, offer gone, nothing stored.
-fn says(message: Message, mark: Mark, content: Content) -> Effect
+pub(crate) fn says(message: Message, mark: Mark, content: Content) -> Effect
     ensures { λ r. ⌜ r ≡ says message mark content ⌝ }
 {
     let answer = answer_to(message, mark, content);
@@ -122,7 +123,7 @@ fn number_in(row: Row, number: i32) -> Content
 }
 
 // `00000`.
-fn no_number() -> Content
+pub(crate) fn no_number() -> Content
     ensures { λ r. ⌜ r ≡ Content.Number (withDecimals (pos 0) 0) ⌝ }
 {
     let number = 0;
@@ -235,7 +236,7 @@ fn set_to(setup: Setup, message: Message, entry: Entry, value: i32, x: Numeral) 
     }
 }
 
-fn decimals_of(entry: Entry) -> u8
+pub(crate) fn decimals_of(entry: Entry) -> u8
     ensures { λ r. ⌜ r ≡ rowOrZeros entry .decimals ⌝ }
 {
     let Entry::Found(row) = entry else {
@@ -292,99 +293,6 @@ pub(crate) fn is_for(setup: Setup, message: Message) -> bool
     ensures { λ r. ⌜ r ≡ isFor setup message ⌝ }
 {
     (message.letter == setup.letter) & (message.address == setup.address)
-}
-
-// The value of an identifier, with the decimals of its row. `places` is an index of the two sheets.
-fn value_of<'a>(
-    bench: &'a [i32],
-    maker: &'a [i32],
-    places: &[usize],
-    values: &[i32],
-    identifier: u8,
-) -> Decimal
-    ensures { λ r. ⌜ r ≡ valueOf (entryAt (now (bench .entry)) (now (maker .entry)) (now (places .entry))) (λ i. getD (now (values .entry)) i (pos 0)) identifier ⌝ }
-{
-    let entry = sheet::find_at(bench, maker, places, identifier);
-    let number = value_at(values, identifier);
-    let decimals = decimals_of(entry);
-    Decimal { number, decimals }
-}
-
-// The values of the identifiers that the card names, four or five.
-fn scan_of<'a>(
-    setup: Setup,
-    bench: &'a [i32],
-    maker: &'a [i32],
-    places: &[usize],
-    values: &[i32],
-) -> Content
-    ensures { λ r. ⌜ r ≡ scanOf setup (valueOf (entryAt (now (bench .entry)) (now (maker .entry)) (now (places .entry))) (λ i. getD (now (values .entry)) i (pos 0))) ⌝ }
-{
-    let names = setup.scan;
-    let a = value_of(bench, maker, places, values, names[0]);
-    let b = value_of(bench, maker, places, values, names[1]);
-    let c = value_of(bench, maker, places, values, names[2]);
-    let d = value_of(bench, maker, places, values, names[3]);
-    if setup.count == 4 {
-        return Content::Four(a, b, c, d);
-    }
-    let e = value_of(bench, maker, places, values, names[4]);
-    Content::Five(a, b, c, d, e)
-}
-
-fn declines_scan(message: Message) -> Effect
-    ensures { λ r. ⌜ r ≡ declinesScan message ⌝ }
-{
-    says(message, Mark::Declined, no_number())
-}
-
-// A message on `]`, by its type.
-fn serve_scan<'a>(
-    setup: Setup,
-    bench: &'a [i32],
-    maker: &'a [i32],
-    places: &[usize],
-    values: &[i32],
-    message: Message,
-) -> Effect
-    ensures { λ r. ⌜ r ≡ serveScan setup message (scanOf setup (valueOf (entryAt (now (bench .entry)) (now (maker .entry)) (now (places .entry))) (λ i. getD (now (values .entry)) i (pos 0)))) (message .body) ⌝ }
-{
-    let body = message.body;
-    match body {
-        Body::Status => declines_scan(message),
-        Body::Query => {
-            if setup.count == 0 {
-                declines_scan(message)
-            } else {
-                let content = scan_of(setup, bench, maker, places, values);
-                says(message, Mark::Accepted, content)
-            }
-        }
-        Body::Up => declines_scan(message),
-        Body::Down => declines_scan(message),
-        Body::Set(_) => declines_scan(message),
-        Body::Store => silent(),
-    }
-}
-
-// What a message on `]` leads to, at a card with this setup and offer. It is apart from the others, so that they carry no room for five numbers.
-// `places` is an index of the two sheets.
-pub fn on_scan<'a>(
-    setup: Setup,
-    offer: Offer,
-    bench: &'a [i32],
-    maker: &'a [i32],
-    places: &[usize],
-    values: &[i32],
-    message: Message,
-) -> Effect
-    ensures { λ r. ⌜ r ≡ onScan setup offer (entryAt (now (bench .entry)) (now (maker .entry)) (now (places .entry))) (λ i. getD (now (values .entry)) i (pos 0)) message ⌝ }
-{
-    if is_for(setup, message) {
-        serve_scan(setup, bench, maker, places, values, message)
-    } else {
-        no_effect(offer)
-    }
 }
 
 // What a message on any other identifier leads to, at a card with this setup and offer.

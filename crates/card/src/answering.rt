@@ -68,7 +68,7 @@ fn scan_effect<'a>(
     let Parsed::Heard(message) = parsed else {
         return act::no_effect(offer);
     };
-    act::on_scan(setup, offer, bench, maker, places, values, message)
+    act::scan::on_scan(setup, offer, bench, maker, places, values, message)
 }
 
 // What any other leads to.

@@ -1,4 +1,4 @@
--- `abi::set_of` meets its contract: decimals that fit a byte are kept, and 1 is minus zero. Assumes nothing.
+-- `abi::asking::set_of` meets its contract: decimals that fit a byte are kept, and 1 is minus zero. Assumes nothing.
 use mathlib.Core.Bool.{Bool, _&&_}
 use native.Mathlib.Omega.{arith}
 use borrow.Author.Tests.{leb-true, not-true, not-false}
@@ -7,8 +7,8 @@ use Rattle.refusal.proofs.Logic.{and-left}
 use Rattle.number.proofs.Signed.{rd-is}
 use Rattle.abi.specs.Result.{setOf}
 use borrow.Author.Needs.{needs}
-use Rattle.abi.proofs.set_of.Statement.{statement}
-use Rattle.abi.proofs.set_of.Tie as tie
+use Rattle.abi.proofs.asking.set_of.Statement.{statement}
+use Rattle.abi.proofs.asking.set_of.Tie as tie
 
 -- the test of the definition
 abbrev fit : tie.Start → Bool

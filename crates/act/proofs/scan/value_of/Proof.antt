@@ -1,12 +1,12 @@
--- `act::value_of` meets its contract: the value at its place, and the decimals of its entry. Assumes nothing.
+-- `act::scan::value_of` meets its contract: the value at its place, and the decimals of its entry. Assumes nothing.
 use mathlib.Core.Path.{ap, _∙_}
 use Rattle.number.proofs.Signed.{rd-ok}
 use Rattle.sheet.specs.declared.Entry.{Entry}
 use Rattle.act.specs.Cause.{rowOrZeros}
 use Rattle.act.specs.Act.{valueOf}
 use borrow.Author.Needs.{needs}
-use Rattle.act.proofs.value_of.Statement.{statement}
-use Rattle.act.proofs.value_of.Tie as tie
+use Rattle.act.proofs.scan.value_of.Statement.{statement}
+use Rattle.act.proofs.scan.value_of.Tie as tie
 
 returns : tie.Need-returns
 unfolding valueOf

@@ -1,11 +1,11 @@
--- `act::scan_of` meets its contract: the values of the identifiers that the card names, four or five. Assumes nothing.
+-- `act::scan::scan_of` meets its contract: the values of the identifiers that the card names, four or five. Assumes nothing.
 use mathlib.Core.Path.{sym, _∙_}
 use borrow.Author.Tests.{eq-eqb, ne-eqb}
 use Rattle.reply.specs.declared.Content.the-variants.{Four, Five}
 use Rattle.act.specs.Act.{scanOf}
 use borrow.Author.Needs.{needs}
-use Rattle.act.proofs.scan_of.Statement.{statement}
-use Rattle.act.proofs.scan_of.Tie as tie
+use Rattle.act.proofs.scan.scan_of.Statement.{statement}
+use Rattle.act.proofs.scan.scan_of.Tie as tie
 
 returns : tie.Need-returns
 unfolding scanOf

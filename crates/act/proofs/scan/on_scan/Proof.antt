@@ -1,10 +1,10 @@
--- `act::on_scan` meets its contract: the test is the definition's. Assumes nothing.
+-- `act::scan::on_scan` meets its contract: the test is the definition's. Assumes nothing.
 use mathlib.Core.Path.{sym, _∙_}
 use borrow.Author.Needs.{needs}
 use Rattle.act.specs.Inner.{addressed}
 use Rattle.act.proofs.Judged.{bracket-is}
-use Rattle.act.proofs.on_scan.Statement.{statement}
-use Rattle.act.proofs.on_scan.Tie as tie
+use Rattle.act.proofs.scan.on_scan.Statement.{statement}
+use Rattle.act.proofs.scan.on_scan.Tie as tie
 
 returns : tie.Need-returns
 unfolding addressed

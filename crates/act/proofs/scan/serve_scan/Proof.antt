@@ -1,12 +1,12 @@
--- `act::serve_scan` meets its contract: the arm says the type. Assumes nothing.
+-- `act::scan::serve_scan` meets its contract: the arm says the type. Assumes nothing.
 use mathlib.Core.Path.{sym, ap, _∙_}
 use borrow.Author.Tests.{eq-eqb, ne-eqb}
 use Rattle.reply.specs.declared.Mark.the-variants.{Accepted}
 use Rattle.act.specs.Act.{says}
 use Rattle.act.specs.Inner.{serveScan}
 use borrow.Author.Needs.{needs}
-use Rattle.act.proofs.serve_scan.Statement.{statement}
-use Rattle.act.proofs.serve_scan.Tie as tie
+use Rattle.act.proofs.scan.serve_scan.Statement.{statement}
+use Rattle.act.proofs.scan.serve_scan.Tie as tie
 
 returns : tie.Need-returns
 unfolding serveScan

@@ -1,10 +1,10 @@
--- `abi::asked` meets its contract: an address that fits a byte is kept. Assumes nothing.
+-- `abi::asking::asked` meets its contract: an address that fits a byte is kept. Assumes nothing.
 use borrow.Author.Tests.{le-leb, lt-leb}
 use Rattle.number.proofs.Signed.{rd-is}
 use Rattle.abi.specs.Result.{asked}
 use borrow.Author.Needs.{needs}
-use Rattle.abi.proofs.asked.Statement.{statement}
-use Rattle.abi.proofs.asked.Tie as tie
+use Rattle.abi.proofs.asking.asked.Statement.{statement}
+use Rattle.abi.proofs.asking.asked.Tie as tie
 
 returns : tie.Need-returns
 unfolding asked

@@ -1,10 +1,10 @@
--- `abi::body_of` meets its contract: each arm by the kind that led there. Assumes nothing.
+-- `abi::asking::body_of` meets its contract: each arm by the kind that led there. Assumes nothing.
 use borrow.Author.Tests.{eq-eqb, ne-eqb}
 use Rattle.number.proofs.Signed.{rd-is}
 use Rattle.abi.specs.Result.{bodyOf}
 use borrow.Author.Needs.{needs}
-use Rattle.abi.proofs.body_of.Statement.{statement}
-use Rattle.abi.proofs.body_of.Tie as tie
+use Rattle.abi.proofs.asking.body_of.Statement.{statement}
+use Rattle.abi.proofs.asking.body_of.Tie as tie
 
 returns : tie.Need-returns
 unfolding bodyOf

@@ -1,11 +1,11 @@
--- `act::declines_scan` meets its contract: `N` with `00000`. Assumes nothing.
+-- `act::scan::declines_scan` meets its contract: `N` with `00000`. Assumes nothing.
 use mathlib.Core.Path.{ap, _∙_}
 use Rattle.reply.specs.declared.Mark.the-variants.{Declined}
 use Rattle.act.specs.Act.{says}
 use Rattle.act.specs.Inner.{declinesScan}
 use borrow.Author.Needs.{needs}
-use Rattle.act.proofs.declines_scan.Statement.{statement}
-use Rattle.act.proofs.declines_scan.Tie as tie
+use Rattle.act.proofs.scan.declines_scan.Statement.{statement}
+use Rattle.act.proofs.scan.declines_scan.Tie as tie
 
 returns : tie.Need-returns
 unfolding declinesScan
