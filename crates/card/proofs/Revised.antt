@@ -26,7 +26,8 @@ use Rattle.act.specs.Cause.{Why, because}
 use Rattle.act.specs.Act.{ofRevision}
 use Rattle.act.proofs.Zeros.{revisions-act, revisions-cause, names-revised}
 use Rattle.card.specs.declared.Card.{Card}
-use Rattle.card.specs.Turn.{Turn, effectOf, turned, turn, stored, Played, stopped, after, play}
+use Rattle.card.specs.Run.{Played, stopped, after, playing}
+use Rattle.card.specs.Turn.{Turn, effectOf, turned, turn, stored, Instrument, play}
 use Rattle.card.specs.Cause.{whyClosed, whyAfter, whyTo}
 use Rattle.card.specs.Refusals.{isRevision, soundSetup, soundCard, soundScan, cardChecks, stepChecks}
 use Rattle.card.specs.Calls.{revised, revisedAfter, answered, stepCall, ended, runCall}
@@ -59,16 +60,16 @@ module _ (n : ℕ) (bench maker : List ℤ) where
 
   -- ---- a run
 
-  abbrev revisedPlay : Played → Played
-  revisedPlay p = record { card = revised n (p .card); values = p .values; bytes = p .bytes; taken = p .taken }
+  abbrev revisedPlay : Played Instrument → Played Instrument
+  revisedPlay p = record { state = record { card = revised n (p .state .card); values = p .state .values }; bytes = p .bytes; taken = p .taken }
 
   play-revised : (c : Card) (values : List ℤ) (room : ℕ) (ws : List ℕ) → noMinusZero (heardFrom (c .pending) ws) ≡ true → play bench maker (revised n c) values room ws ≡ revisedPlay (play bench maker c values room ws)
-  unfolding play heardFrom turn turned
+  unfolding playing heardFrom turn turned
   play-revised c values room [] e = refl
   play-revised c values room (w ∷ ws) e =
       let s = split (hear (c .pending) w .message) (heardFrom (hear (c .pending) w .pending) ws) e in
       let t : Turn = turn bench maker c values w in
-      let goes : Turn → Played = λ u. cond (leb (length (u .reply)) room) (after (u .reply) (play bench maker (u .card) (stored values (u .store)) (room - length (u .reply)) ws)) (stopped (revised n c) values) in
+      let goes : Turn → Played Instrument = λ u. cond (leb (length (u .reply)) room) (after (u .reply) (play bench maker (u .card) (stored values (u .store)) (room - length (u .reply)) ws)) (stopped (record { card = revised n c; values = values })) in
       ap goes (turn-revised c values w (s .0))
       ∙ by-test (leb (length (t .reply)) room)
       (λ h. rw h (ap (after (t .reply)) (play-revised (t .card) (stored values (t .store)) (room - length (t .reply)) ws (s .1))))
@@ -108,7 +109,7 @@ module _ (n : ℕ) (bench maker : List ℤ) where
         rw (checks-revised c values ws r)
         (by-first (cardChecks c bench maker values ws)
         (λ k q. rw q refl)
-        (λ q. rw q (ap (λ (p : Played). ended p out) (play-revised c values (length out) ws e))))
+        (λ q. rw q (ap (λ (p : Played Instrument). ended p out) (play-revised c values (length out) ws e))))
 
     pub step-revised : (w : ℕ) (out : List ℕ) → noMinusZero (heardFrom (c .pending) (w ∷ [])) ≡ true → stepCall (revised n c) bench maker values w out ≡ revisedAfter n (stepCall c bench maker values w out)
     unfolding stepCall stepChecks heardFrom

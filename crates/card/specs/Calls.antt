@@ -16,7 +16,8 @@ use Rattle.card.specs.declared.Ran.{Ran}
 use Rattle.act.specs.Cause.{Why, whyOf}
 use Rattle.act.specs.Act.{ofRevision}
 use Rattle.card.specs.Cause.{whyTo}
-use Rattle.card.specs.Turn.{Turn, turn, stored, Played, play}
+use Rattle.card.specs.Run.{Played}
+use Rattle.card.specs.Turn.{Turn, turn, stored, Instrument, play}
 use Rattle.card.specs.Refusals.{cardChecks, stepChecks}
 
 -- all that a call on a card answers and leaves: the card, the outcome, the values and the buffer afterwards
@@ -82,9 +83,9 @@ abbrev pub runAfter : Ran → List ℤ → List ℕ → After Took
 runAfter r values out = record { card = r .card; outcome = runOutcome (r .answer); values = values; buffer = out }
 
 -- what a run that is served leaves: all that was played, at the front of the buffer
-abbrev pub ended : Played → List ℕ → After Took
+abbrev pub ended : Played Instrument → List ℕ → After Took
 ended p out =
-    record { card = p .card; outcome = gave (record { words = p .taken; bytes = length (p .bytes) }); values = p .values; buffer = laid (p .bytes) out }
+    record { card = p .state .card; outcome = gave (record { words = p .taken; bytes = length (p .bytes) }); values = p .state .values; buffer = laid (p .bytes) out }
 
 -- document 01: "Stopping there isn't a refusal."
 unfoldable pub runCall : Card → List ℤ → List ℤ → List ℤ → List ℕ → List ℕ → After Took

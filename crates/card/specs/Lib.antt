@@ -1,3 +1,4 @@
+pub mod Run
 pub mod Turn
 pub mod Cause
 pub mod Refusals

@@ -1,10 +1,8 @@
--- What a word does to a card, and what a run of words does.
-use mathlib.Core.Bool.{cond}
-use mathlib.Core.List.{List, [], _∷_, _++_}
-use Prim.Native.Nat.{ℕ, suc, _-_}
-use lib.Dec.{leb}
+-- What a word does to a card, and to an instrument: a card with its values.
+use mathlib.Core.List.{List, []}
+use Prim.Native.Nat.{ℕ}
 use lib.IntN.{ℤ}
-use lib.ListN.{length, set}
+use lib.ListN.{set}
 use Rattle.wire.specs.Word.{travelling}
 use Rattle.message.specs.declared.Parsed.{Parsed}
 use Rattle.message.specs.declared.Parsed.the-variants.{Heard, Unheard}
@@ -20,6 +18,7 @@ use Rattle.act.specs.declared.Store.{Store}
 use Rattle.act.specs.declared.Store.the-variants.{Keep, Put}
 use Rattle.act.specs.declared.Effect.{Effect}
 use Rattle.act.specs.Act.{noEffect, act}
+use Rattle.card.specs.Run.{Reaction, Played, playing}
 
 -- ---- one word
 
@@ -58,24 +57,16 @@ stored values (Put i z) = set values i z
 
 -- ---- a run
 
--- where it ends: the card, the values, all bytes replied, and the number of words taken
-pub record Played : Type 0 where
+-- an instrument on the pair: its card and its values
+pub record Instrument : Type 0 where
   pub card : Card
   pub values : List ℤ
-  pub bytes : List ℕ
-  pub taken : ℕ
 
--- no word is taken
-abbrev pub stopped : Card → List ℤ → Played
-stopped c values = record { card = c; values = values; bytes = []; taken = 0 }
+-- a word to it: its own turn
+abbrev pub hears : List ℤ → List ℤ → Instrument → ℕ → Reaction Instrument
+hears bench maker i w =
+    let t : Turn = turn bench maker (i .card) (i .values) w in
+    record { state = record { card = t .card; values = stored (i .values) (t .store) }; reply = t .reply }
 
--- one word was taken before, and answered with these bytes
-abbrev pub after : List ℕ → Played → Played
-after bs p = record { card = p .card; values = p .values; bytes = bs ++ p .bytes; taken = suc (p .taken) }
-
--- document 01: "A run takes words until all are taken or the next word's reply no longer fits"
-unfoldable pub play : List ℤ → List ℤ → Card → List ℤ → ℕ → List ℕ → Played
-play bench maker c values room [] = stopped c values
-play bench maker c values room (w ∷ ws) =
-    let t : Turn = turn bench maker c values w in
-    cond (leb (length (t .reply)) room) (after (t .reply) (play bench maker (t .card) (stored values (t .store)) (room - length (t .reply)) ws)) (stopped c values)
+abbrev pub play : List ℤ → List ℤ → Card → List ℤ → ℕ → List ℕ → Played Instrument
+play bench maker c values room ws = playing (hears bench maker) (record { card = c; values = values }) room ws

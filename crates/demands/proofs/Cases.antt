@@ -38,7 +38,8 @@ use Rattle.act.specs.declared.causes.Cause.the-variants.{None, NoMessageClosed,
 use Rattle.act.specs.Cause.{why, whyOf, isFor, isOffered, standing, onBracket, takesZero, causes}
 use Rattle.act.specs.Act.{namesFrom, valueOf, scanOf, says, accepts, shownBy, offers, granted, turnedDown, respond, act, causesIn}
 use Rattle.card.specs.declared.Card.{Card}
-use Rattle.card.specs.Turn.{effectOf, turned, turn, stored, play}
+use Rattle.card.specs.Run.{playing}
+use Rattle.card.specs.Turn.{effectOf, turned, turn, stored}
 use Rattle.card.specs.Cause.{whyClosed, whyAfter, whyTo}
 use Rattle.card.specs.Refusals.{isRevision, soundScan, soundSetup, soundCard, offerable, soundOffer, cardChecks, stepChecks}
 use Rattle.card.specs.Calls.{stepCall, runCall}
@@ -49,7 +50,7 @@ use Rattle.demands.specs.Bench.{benchRows, benchValues, cardWith, Case, 
 
 -- what a table computes through
 computed : List Case → Bool
-unfolding ones onesIn every same laid first evenParity withParity received travelling validWords inRange isMultiple cutDown cut raised lowered digit isDigit digitOf fits codeOf fiveDigits spellData decode readNext readFrom readData isLetter isAddress isIdentifier extendIdentifier extendAddress extendData extendBody extend extendAll finish parse spellAddress none added openOf opening continuing actionOf perform hear plainChar plain zeros soundPending rows soundIdentifier soundNumbers soundRow soundRows soundSheet codeIs lookup.isFor rowAmong placeAmong rowIn placeIn hasRow rowOf numbersOf entryOf entryIn isReadable isWritable isReadWrite fitsRow fitsPlace soundFrom soundValues spellContent spellAnswer says accepts shownBy offers granted isOffered standing onBracket isFor takesZero asksMinusZero causes turnedDown respond act effectOf turned turn stored play isRevision soundSetup soundCard offerable soundOffer isReadableEntry namesFrom soundScan cardChecks runCall benchRows benchValues cardWith equalZ took answersAll passesOn
+unfolding ones onesIn every same laid first evenParity withParity received travelling validWords inRange isMultiple cutDown cut raised lowered digit isDigit digitOf fits codeOf fiveDigits spellData decode readNext readFrom readData isLetter isAddress isIdentifier extendIdentifier extendAddress extendData extendBody extend extendAll finish parse spellAddress none added openOf opening continuing actionOf perform hear plainChar plain zeros soundPending rows soundIdentifier soundNumbers soundRow soundRows soundSheet codeIs lookup.isFor rowAmong placeAmong rowIn placeIn hasRow rowOf numbersOf entryOf entryIn isReadable isWritable isReadWrite fitsRow fitsPlace soundFrom soundValues spellContent spellAnswer says accepts shownBy offers granted isOffered standing onBracket isFor takesZero asksMinusZero causes turnedDown respond act effectOf turned turn stored playing isRevision soundSetup soundCard offerable soundOffer isReadableEntry namesFrom soundScan cardChecks runCall benchRows benchValues cardWith equalZ took answersAll passesOn
 computed xs = every passes xs
 
 -- cases a to l

@@ -17,10 +17,12 @@ use Rattle.hearing.specs.Hearing.{heard}
 use Rattle.hearing.specs.Normal.{normal, normalCall}
 use Rattle.hearing.proofs.Normal.{heard-normal, normal-normal, normal-same, normal-valid, normal-served, wrote-normal}
 use Rattle.card.specs.declared.Card.{Card}
-use Rattle.card.specs.Turn.{Turn, turn, stored, Played}
+use Rattle.card.specs.Run.{Played}
+use Rattle.card.specs.Turn.{Turn, turn, stored, Instrument, hears}
 use Rattle.card.specs.Calls.{After, Took, ended, runCall}
 use Rattle.card.proofs.Steps.{run-served}
-use Rattle.card.proofs.Plays.{Left, leftBy, all, no-bytes, more-bytes, all-taken, run-all, left-alike}
+use Rattle.card.proofs.Runs.{all, all-end, all-word, all-taken, run-all}
+use Rattle.card.proofs.Plays.{Left, leftBy, left-alike}
 use Rattle.demands.specs.Terms.{Sound, replies}
 use Rattle.demands.specs.Demand3.{Wrote, PlayedAlike, Demand3}
 use Rattle.demands.proofs.Words.{passed}
@@ -53,23 +55,26 @@ same-messages a b xs ys p q = (λ e. normal-same a b .0 (sym p ∙ e ∙ q), λ 
 
 -- ---- a run with room for every reply
 
-all-replies : (bench maker : List ℤ) (c : Card) (values : List ℤ) (ws : List ℕ) → all bench maker c values ws .bytes ≡ replies bench maker c values ws
+all-replies : (bench maker : List ℤ) (c : Card) (values : List ℤ) (ws : List ℕ) → all (hears bench maker) (record { card = c; values = values }) ws .bytes ≡ replies bench maker c values ws
 unfolding replies
-all-replies bench maker c values [] = no-bytes bench maker c values
+all-replies bench maker c values [] = ap (λ (p : Played Instrument). p .bytes) (all-end (hears bench maker) (record { card = c; values = values }))
 all-replies bench maker c values (w ∷ ws) =
     let t : Turn = turn bench maker c values w in
-    more-bytes bench maker c values w ws ∙ ap (λ (l : List ℕ). t .reply ++ l) (all-replies bench maker (t .card) (stored values (t .store)) ws)
+    ap (λ (p : Played Instrument). p .bytes) (all-word (hears bench maker) (record { card = c; values = values }) w ws) ∙ ap (λ (l : List ℕ). t .reply ++ l) (all-replies bench maker (t .card) (stored values (t .store)) ws)
 
 module _ (bench maker : List ℤ) (c : Card) (values : List ℤ) (s : Sound bench maker c values) where
-  abbrev ends : List ℕ → Played
-  ends ws = all bench maker c values ws
+  abbrev start : Instrument
+  start = record { card = c; values = values }
+
+  abbrev ends : List ℕ → Played Instrument
+  ends ws = all (hears bench maker) start ws
 
   module _ (ws out : List ℕ) (n : ℕ) (v : validWords ws ≡ true) (b : length (ends ws .bytes) ≡ n) (h : n ≤ length out) where
     served : runCall c bench maker values ws out ≡ ended (ends ws) out
-    served = run-served c bench maker values ws out (passed bench maker c values s ws v) ∙ ap (λ (p : Played). ended p out) (run-all bench maker c values (length out) ws (omega arith))
+    served = run-served c bench maker values ws out (passed bench maker c values s ws v) ∙ ap (λ (p : Played Instrument). ended p out) (run-all (hears bench maker) start (length out) ws (omega arith))
 
     outcome : runCall c bench maker values ws out .outcome ≡ gave (record { words = length ws; bytes = n })
-    outcome = ap (λ (r : After Took). r .outcome) served ∙ (λ j. gave (record { words = all-taken bench maker c values ws j; bytes = b j }))
+    outcome = ap (λ (r : After Took). r .outcome) served ∙ (λ j. gave (record { words = all-taken (hears bench maker) start ws j; bytes = b j }))
 
     bytes-written : take n (runCall c bench maker values ws out .buffer) ≡ ends ws .bytes
     bytes-written =

@@ -24,14 +24,15 @@ use Rattle.message.proofs.Spelling.{write-served}
 use Rattle.hearing.proofs.Normal.{wrote-message, writer-heard}
 use Rattle.reply.specs.Reply.{longestReply}
 use Rattle.card.specs.declared.Card.{Card}
-use Rattle.card.specs.Turn.{Turn, turn, stored, Played, stopped, after, play}
+use Rattle.card.specs.Run.{Played, stopped, after}
+use Rattle.card.specs.Turn.{Turn, turn, stored, Instrument, hears, play}
 use Rattle.card.specs.Refusals.{cardChecks}
 use Rattle.card.specs.Cause.{whyTo}
 use Rattle.card.specs.Calls.{After, WordAnswer, bytesOf, answered, stepCall, Took, ended, runCall}
 use Rattle.card.proofs.Turns.{turn-card}
 use Rattle.card.proofs.Steps.{all-sound, step-served, served-step, run-served}
 use Rattle.card.proofs.Sounds.{card-stays, offer-stays, values-stay}
-use Rattle.card.proofs.Plays.{play-end, play-word}
+use Rattle.card.proofs.Runs.{play-end, play-word}
 use Rattle.demands.specs.Terms.{Sound}
 use Rattle.demands.specs.Demand2.{WriterHeard, oneMore, takesNone, RunSteps}
 
@@ -75,22 +76,25 @@ module _ (bench maker : List ℤ) (c : Card) (values : List ℤ) (s : Sound benc
   ran : (ws out : List ℕ) → validWords ws ≡ true → runCall c bench maker values ws out ≡ ended (play bench maker c values (length out) ws) out
   ran ws out v = run-served c bench maker values ws out (passed ws v)
 
-  none-taken : (out : List ℕ) → ended (stopped c values) out ≡ takesNone c values out
+  abbrev start : Instrument
+  start = record { card = c; values = values }
+
+  none-taken : (out : List ℕ) → ended (stopped start) out ≡ takesNone c values out
   none-taken out = λ j. record { card = c; outcome = gave (record { words = 0; bytes = 0 }); values = values; buffer = laid-nothing out j }
 
   run-ends : (out : List ℕ) → runCall c bench maker values [] out ≡ takesNone c values out
-  run-ends out = ran [] out no-words-valid ∙ ap (λ (p : Played). ended p out) (play-end bench maker c values (length out)) ∙ none-taken out
+  run-ends out = ran [] out no-words-valid ∙ ap (λ (p : Played Instrument). ended p out) (play-end (hears bench maker) start (length out)) ∙ none-taken out
 
 -- a play behind one word's reply
-module _ (bs : List ℕ) (p : Played) (out : List ℕ) where
+module _ (bs : List ℕ) (p : Played Instrument) (out : List ℕ) where
   abbrev behind : After Took → After Took
   behind r = record { card = r .card; outcome = oneMore (length bs) (r .outcome); values = r .values; buffer = bs ++ r .buffer }
 
   one-more : ended (after bs p) out ≡ behind (ended p (drop (length bs) out))
   one-more = λ j. record {
-    card = p .card;
+    card = p .state .card;
     outcome = gave (record { words = suc (p .taken); bytes = length-append bs (p .bytes) j });
-    values = p .values;
+    values = p .state .values;
     buffer = laid-both bs (p .bytes) out j;
   }
 
@@ -101,20 +105,20 @@ module _ (bench maker : List ℤ) (c : Card) (values : List ℤ) (w : ℕ) (ws o
   abbrev rest : After Took
   rest = runCall (t .card) bench maker (stored values (t .store)) ws (drop (length (t .reply)) out)
 
-  run-takes : length (t .reply) ≤ length out → runCall c bench maker values (w ∷ ws) out ≡ behind (t .reply) (stopped c values) out rest
+  run-takes : length (t .reply) ≤ length out → runCall c bench maker values (w ∷ ws) out ≡ behind (t .reply) (stopped (start bench maker c values s)) out rest
   run-takes h =
       let n = length (t .reply) in
-      let p : ℕ → Played = λ room. play bench maker (t .card) (stored values (t .store)) room ws in
+      let p : ℕ → Played Instrument = λ room. play bench maker (t .card) (stored values (t .store)) room ws in
       ran bench maker c values s (w ∷ ws) out v
-      ∙ ap (λ (q : Played). ended q out) (play-word bench maker c values (length out) w ws ∙ rw (le-leb n (length out) h) refl)
+      ∙ ap (λ (q : Played Instrument). ended q out) (play-word (hears bench maker) (start bench maker c values s) (length out) w ws ∙ rw (le-leb n (length out) h) refl)
       ∙ one-more (t .reply) (p (length out - n)) out
-      ∙ ap (λ (k : ℕ). behind (t .reply) (stopped c values) out (ended (p k) (drop n out))) (sym (length-drop n out))
-      ∙ ap (behind (t .reply) (stopped c values) out) (sym (ran bench maker (t .card) (stored values (t .store)) (left bench maker c values s w) ws (drop n out) (valid-first w ws v .1)))
+      ∙ ap (λ (k : ℕ). behind (t .reply) (stopped (start bench maker c values s)) out (ended (p k) (drop n out))) (sym (length-drop n out))
+      ∙ ap (behind (t .reply) (stopped (start bench maker c values s)) out) (sym (ran bench maker (t .card) (stored values (t .store)) (left bench maker c values s w) ws (drop n out) (valid-first w ws v .1)))
 
   run-stops : length out < length (t .reply) → runCall c bench maker values (w ∷ ws) out ≡ takesNone c values out
   run-stops h =
       ran bench maker c values s (w ∷ ws) out v
-      ∙ ap (λ (q : Played). ended q out) (play-word bench maker c values (length out) w ws ∙ rw (lt-leb (length (t .reply)) (length out) h) refl)
+      ∙ ap (λ (q : Played Instrument). ended q out) (play-word (hears bench maker) (start bench maker c values s) (length out) w ws ∙ rw (lt-leb (length (t .reply)) (length out) h) refl)
       ∙ none-taken bench maker c values s out
 
   -- what the single word's call has left, in place of the turn

@@ -9,7 +9,7 @@ use native.Mathlib.Omega.{arith}
 use borrow.Author.Needs.{needs}
 use lib.IntN.{ℤ}
 use lib.ListN.{length, getD, drop}
-use Rattle.refusal.specs.Refusal.{numberOf, outcomeOf}
+use Rattle.refusal.specs.Refusal.{gave, numberOf, outcomeOf}
 use Rattle.message.specs.declared.Parsed.{Parsed}
 use Rattle.message.specs.Prefix.{parse}
 use Rattle.hearing.specs.declared.Halt.{Halt}
@@ -24,10 +24,12 @@ use Rattle.card.specs.declared.Card.{Card}
 use Rattle.card.specs.declared.Ran.{Ran}
 use Rattle.card.specs.declared.RunAnswer.the-variants.{Took}
 use Rattle.card.specs.Calls.{runAfter, ended}
-use Rattle.card.specs.Turn.{Turn, turned, turn, Played, stopped, play}
+use Rattle.card.specs.Run.{Reaction, Played, stopped, playing}
+use Rattle.card.specs.Turn.{Turn, turned, stored, Instrument, hears, play}
 use Rattle.card.specs.Inner.{isScan, Settled}
 use Rattle.card.proofs.Turns.{effects, turn-closes}
 use Rattle.card.proofs.Runs.{Carried, playedFrom, starts, begins, turned as turned-on, carried-reached, no-room, ends, over}
+use Rattle.card.proofs.Plays.{holding, carriedOut, does, obeys-quiet, hears-obeys}
 use Rattle.card.proofs.Settled.{Done, Undone, gave-done, refused-undone}
 use Rattle.card.proofs.answering.take_all.Statement.{statement}
 use Rattle.card.proofs.answering.take_all.Tie as tie
@@ -36,8 +38,8 @@ use Rattle.card.proofs.answering.take_all.Tie as tie
 abbrev reachedOf : List ℕ → Halt → Reached
 reachedOf chars halt = record { pending = record { chars = chars; len = halt .len }; at = halt .at }
 
-abbrev cardOf : Setup → Offer → Reached → Card
-cardOf setup offer r = record { setup = setup; pending = r .pending; offer = offer }
+abbrev standsAt : Setup → Offer → List ℤ → Reached → Instrument
+standsAt setup offer values r = record { card = record { setup = setup; pending = r .pending; offer = offer }; values = values }
 
 -- a word that is left closes the message
 abbrev Closes : List ℕ → Reached → Type 0
@@ -45,9 +47,10 @@ Closes words r = r .at < length words → hear (r .pending) (getD words (r .at) 
 
 abbrev Inv-loop : tie.InvT-loop
 Inv-loop bench maker values₀ words out₀ setup offer₀ chars₀ halt₀ places at₀ values out offer chars halt at =
-    Carried bench maker (playedFrom bench maker values₀ out₀ words (cardOf setup offer₀ (reachedOf chars₀ halt₀)) (halt₀ .at)) values₀ out₀ words (cardOf setup offer (reachedOf chars halt)) values out at (halt .at)
+    Carried (hears bench maker) (playedFrom (hears bench maker) out₀ words (standsAt setup offer₀ values₀ (reachedOf chars₀ halt₀)) (halt₀ .at)) out₀ words (standsAt setup offer values (reachedOf chars halt)) out at (halt .at)
     × Closes words (reachedOf chars halt)
     × (length chars ≡ 10)
+    × (length values ≡ length values₀)
 
 abbrev μ-loop : tie.MeasureT-loop
 μ-loop bench maker values₀ words out₀ setup offer₀ chars₀ halt₀ places at₀ values out offer chars halt at =
@@ -82,30 +85,38 @@ module _ (t : tie.After-to-close Inv-loop μ-loop) where
   is-first : first ≡ toClose (card₀ .pending) words 0
   is-first = ap₂ reachedOf (t .to-close .ensures .1) (t .to-close .ensures .0)
 
-  abbrev all : Played
-  all = playedFrom bench maker values₀ out₀ words (cardOf (card₀ .setup) (card₀ .offer) first) (first .at)
+  abbrev takes : Instrument → ℕ → Reaction Instrument
+  takes = hears bench maker
+
+  abbrev begin₀ : Instrument
+  begin₀ = record { card = card₀; values = values₀ }
+
+  abbrev stand : Instrument
+  stand = standsAt (card₀ .setup) (card₀ .offer) values₀ first
+
+  abbrev all : Played Instrument
+  all = playedFrom takes out₀ words stand (first .at)
 
   is-all : play bench maker card₀ values₀ (length out₀) words ≡ all
-  is-all = starts bench maker values₀ out₀ words card₀ first is-first
+  is-all = starts takes out₀ words (holding begin₀) (obeys-quiet (does bench maker) takes holding (hears-obeys bench maker) begin₀) (card₀ .pending) first is-first
 
-  begun : Carried bench maker all values₀ out₀ words (cardOf (card₀ .setup) (card₀ .offer) first) values₀ out₀ 0 (first .at)
-  begun =
-      begins bench maker values₀ out₀ words (cardOf (card₀ .setup) (card₀ .offer) first) (first .at)
-      (subst (λ (x : Reached). x .at ≤ length words) (sym is-first) (reached-in words (card₀ .pending) 0 (omega arith) .1))
+  begun : Carried takes all out₀ words stand out₀ 0 (first .at)
+  begun = begins takes out₀ words stand (first .at) (subst (λ (x : Reached). x .at ≤ length words) (sym is-first) (reached-in words (card₀ .pending) 0 (omega arith) .1))
 
   -- nothing more is taken
-  stops : (here : Card) (v : List ℤ) (out : List ℕ) (at i : ℕ) → Carried bench maker all values₀ out₀ words here v out at i
-      → play bench maker here v (length out₀ - at) (drop i words) ≡ stopped here v
-      → (r : Ran) → r ≡ record { card = here; answer = Took i at } → runAfter r v out ≡ ended (play bench maker card₀ values₀ (length out₀) words) out₀
-  stops here v out at i k e r q =
-      ap (λ (x : Ran). runAfter x v out) q ∙ over bench maker all values₀ out₀ words here v out at i k e ∙ ap (λ (x : Played). ended x out₀) (sym is-all)
+  stops : (here : Instrument) (out : List ℕ) (at i : ℕ) → Carried takes all out₀ words here out at i → playing takes here (length out₀ - at) (drop i words) ≡ stopped here
+      → (r : Ran) → r ≡ record { card = here .card; answer = Took i at } → runAfter r (here .values) out ≡ ended (play bench maker card₀ values₀ (length out₀) words) out₀
+  stops here out at i k e r q =
+      let o = over takes all out₀ words here out at i k e in
+      ap (λ (x : Ran). runAfter x (here .values) out) q
+      ∙ sym (λ j. record { card = o .0 j .card; outcome = gave (record { words = o .1 j; bytes = o .2 j }); values = o .0 j .values; buffer = o .3 j })
+      ∙ ap (λ (x : Played Instrument). ended x out₀) (sym is-all)
 
 returns : tie.Need-returns Inv-loop μ-loop
 returns c =
     let t = c .before .before .before in
-    let here = cardOf (card₀ t .setup) (card₀ t .offer) (first t) in
-    stops t here (values₀ t) (out₀ t) 0 (first t .at) (begun t)
-    (ends (bench t) (maker t) (all t) (values₀ t) (out₀ t) (words t) here (values₀ t) (out₀ t) 0 (first t .at) (begun t) (c .before .if1 .taken))
+    stops t (stand t) (out₀ t) 0 (first t .at) (begun t)
+    (ends (takes t) (all t) (out₀ t) (words t) (stand t) (out₀ t) 0 (first t .at) (begun t) (c .before .if1 .taken))
     (c .so-far .result) (c .so-far .ensures)
 
 ten-places : (s : tie.Start Inv-loop μ-loop) → length (s .args .card .pending .chars) ≡ 10
@@ -118,6 +129,7 @@ loop-holds c =
       begun t,
       subst (Closes (words t)) (sym (is-first t)) (reached-hears (words t) p 0),
       ap length (t .to-close .ensures .1) ∙ reached-long (words t) p 0 (ten-places (start t)),
+      refl,
     )
 
 -- where the loop stands
@@ -128,8 +140,8 @@ module _ (l : tie.At-loop Inv-loop μ-loop) where
   abbrev reached : Reached
   reached = reachedOf (l .loop .chars) (l .loop .halt)
 
-  abbrev here : Card
-  here = cardOf (card₀ begin .setup) (l .loop .offer) reached
+  abbrev here : Instrument
+  here = standsAt (card₀ begin .setup) (l .loop .offer) (l .loop .values) reached
 
 slice-aggregate-closed : tie.Need-slice-aggregate-closed Inv-loop μ-loop
 slice-aggregate-closed c = sym (c .before .before .before .loop .inv .2)
@@ -156,23 +168,24 @@ module _ (e : tie.Joined3 Inv-loop μ-loop) where
   abbrev at-loop : tie.At-loop Inv-loop μ-loop
   at-loop = stands (e .before)
 
-  abbrev leads : Turn
-  leads = turned (here at-loop) none (e .if3 .effect)
+  abbrev leads : Reaction Instrument
+  leads = carriedOut (here at-loop) none (e .if3 .effect)
 
   in-words : at-loop .loop .halt .at < length (words (begin at-loop))
   in-words = e .before .before .before .before .if2 .taken
 
-  is-effect : e .if3 .effect ≡ effects (bench (begin at-loop)) (maker (begin at-loop)) (here at-loop) (at-loop .loop .values) (parsed (e .before))
+  is-effect : e .if3 .effect ≡ effects (bench (begin at-loop)) (maker (begin at-loop)) (here at-loop .card) (at-loop .loop .values) (parsed (e .before))
   is-effect = ⊎-elim (λ w. w .3 ∙ w .2 .ensures) (λ w. w .3 ∙ w .2 .ensures) (e .if3 .came)
 
-  is-turn : leads ≡ turn (bench (begin at-loop)) (maker (begin at-loop)) (here at-loop) (at-loop .loop .values) (getD (words (begin at-loop)) (at-loop .loop .halt .at) 0)
-  unfolding openOf
+  is-turn : leads ≡ takes (begin at-loop) (here at-loop) (getD (words (begin at-loop)) (at-loop .loop .halt .at) 0)
+  unfolding openOf turned
   is-turn =
       let t = begin at-loop in
-      let v = at-loop .loop .values in
-      ap (turned (here at-loop) none) is-effect
-      ∙ ap (λ (o : Parsed). turned (here at-loop) none (effects (bench t) (maker t) (here at-loop) v o)) (e .before .before .closed .ensures)
-      ∙ sym (turn-closes (bench t) (maker t) (here at-loop) v (getD (words t) (at-loop .loop .halt .at) 0) _ (at-loop .loop .inv .1 in-words))
+      let i = here at-loop in
+      let react : Turn → Reaction Instrument = λ u. record { state = record { card = u .card; values = stored (i .values) (u .store) }; reply = u .reply } in
+      ap (carriedOut i none) is-effect
+      ∙ ap (λ (o : Parsed). carriedOut i none (effects (bench t) (maker t) (i .card) (i .values) o)) (e .before .before .closed .ensures)
+      ∙ ap react (sym (turn-closes (bench t) (maker t) (i .card) (i .values) (getD (words t) (at-loop .loop .halt .at) 0) _ (at-loop .loop .inv .1 in-words)))
 
 settle-requires : tie.Need-settle-requires Inv-loop μ-loop
 settle-requires c κs =
@@ -199,21 +212,20 @@ module _ (c : tie.After-enum-told Inv-loop μ-loop) where
   undone = refused-undone _ _ _ _ (came unsettled) (unsettled .settle .ensures) (numberOf (c .enum-told .given .0 .0)) (ap outcomeOf (c .enum-told .given .1))
 
 same-length : tie.Need-same-length Inv-loop μ-loop
-same-length c = ap length (undone (c .before) .kept) ∙ loop (unsettled (c .before)) .loop .inv .0 .values-long
+same-length c = ap length (undone (c .before) .kept) ∙ loop (unsettled (c .before)) .loop .inv .3
 
 same-length-2 : tie.Need-same-length-2 Inv-loop μ-loop
 same-length-2 c = ap length (undone (c .before) .unsaid .leaves) ∙ loop (unsettled (c .before)) .loop .inv .0 .filling .long
 
 returns-2 : tie.Need-returns-2 Inv-loop μ-loop
-unfolding turned
 returns-2 c =
     let u = undone (c .before) in
     let e = effect (unsettled (c .before)) in
     let l = at-loop e in
     let t = begin l in
     ap₂ (runAfter (c .so-far2 .result)) (u .kept) (u .unsaid .leaves)
-    ∙ stops t (here l) (l .loop .values) (l .loop .out) (l .loop .at) (l .loop .halt .at) (l .loop .inv .0)
-    (no-room (bench t) (maker t) (all t) (values₀ t) (out₀ t) (words t) (here l) (l .loop .values) (l .loop .out) (l .loop .at) (l .loop .halt .at) (l .loop .inv .0)
+    ∙ stops t (here l) (l .loop .out) (l .loop .at) (l .loop .halt .at) (l .loop .inv .0)
+    (no-room (takes t) (all t) (out₀ t) (words t) (here l) (l .loop .out) (l .loop .at) (l .loop .halt .at) (l .loop .inv .0)
     (leads e) (is-turn e) (in-words e) (omega (arith, u .unsaid .short, l .loop .inv .0 .filling .long)))
     (c .so-far2 .result) (c .so-far2 .ensures)
 
@@ -274,27 +286,29 @@ loop-less : tie.Need-loop-less Inv-loop μ-loop
 loop-less c = omega (arith, in-words (closed c), behind c)
 
 loop-again : tie.Need-loop-again Inv-loop μ-loop
-unfolding turned
 loop-again c =
     let k = answered c in
     let e = closed c in
     let l = at-loop e in
     let t = begin l in
     let i = l .loop .halt .at in
-    let v = came (settled k) .values in
-    let o = came (settled k) .buffer in
+    let s = came (settled k) in
     let d = done k in
     let turned-here =
-    turned-on (bench t) (maker t) (all t) (values₀ t) (out₀ t) (words t) (here l) (l .loop .values) (l .loop .out) (l .loop .at) i (l .loop .inv .0)
+    turned-on (takes t) (all t) (out₀ t) (words t) (here l) (l .loop .out) (l .loop .at) i (l .loop .inv .0)
     (leads e) (is-turn e) (in-words e)
-    v o (n k) (d .said .count) (omega (arith, room k, l .loop .inv .0 .filling .long)) (d .kept) (settled k .settle .kept .1 .0) (d .said .leaves) in (
-      carried-reached (bench t) (maker t) (all t) (values₀ t) (out₀ t) (words t) (leads e .card) v o (l .loop .at + n k) (i + 1) turned-here (next c) (is-next c),
+    (s .buffer) (n k) (d .said .count) (omega (arith, room k, l .loop .inv .0 .filling .long)) (d .said .leaves) in
+    let next-here =
+    carried-reached (takes t) (all t) (out₀ t) (words t) (holding (leads e .state)) (obeys-quiet (does (bench t) (maker t)) (takes t) holding (hears-obeys (bench t) (maker t)) (leads e .state)) none
+    (s .buffer) (l .loop .at + n k) (i + 1) turned-here (next c) (is-next c) in (
+      subst (λ (v : List ℤ). Carried (takes t) (all t) (out₀ t) (words t) (standsAt (card₀ t .setup) (e .if3 .effect .offer) v (next c)) (s .buffer) (l .loop .at + n k) (next c .at)) (sym (d .kept)) next-here,
       subst (Closes (words t)) (sym (is-next c)) (reached-hears (words t) none (i + 1)),
       ten c,
+      settled k .settle .kept .1 .0 ∙ l .loop .inv .3,
     )
 
 same-length-3 : tie.Need-same-length-3 Inv-loop μ-loop
-same-length-3 c = c .before .before .before .loop .inv .0 .values-long
+same-length-3 c = c .before .before .before .loop .inv .3
 
 same-length-4 : tie.Need-same-length-4 Inv-loop μ-loop
 same-length-4 c = c .before .before .before .loop .inv .0 .filling .long
@@ -303,8 +317,8 @@ returns-3 : tie.Need-returns-3 Inv-loop μ-loop
 returns-3 c =
     let l = c .before .before .before in
     let t = begin l in
-    stops t (here l) (l .loop .values) (l .loop .out) (l .loop .at) (l .loop .halt .at) (l .loop .inv .0)
-    (ends (bench t) (maker t) (all t) (values₀ t) (out₀ t) (words t) (here l) (l .loop .values) (l .loop .out) (l .loop .at) (l .loop .halt .at) (l .loop .inv .0) (c .before .if2 .left))
+    stops t (here l) (l .loop .out) (l .loop .at) (l .loop .halt .at) (l .loop .inv .0)
+    (ends (takes t) (all t) (out₀ t) (words t) (here l) (l .loop .out) (l .loop .at) (l .loop .halt .at) (l .loop .inv .0) (c .before .if2 .left))
     (c .so-far3 .result) (c .so-far3 .ensures)
 
 pub take-all-spec : {M : Type 1} → statement M
