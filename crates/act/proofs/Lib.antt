@@ -3,3 +3,5 @@ pub mod OnOffer
 pub mod Effects
 pub mod Fits
 pub mod Zeros
+pub mod Spoken
+pub mod Shapes

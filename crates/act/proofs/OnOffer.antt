@@ -174,6 +174,11 @@ pub own-card : (c : Setup) (m : Message) → c .letter ≡ m .letter → c .addr
 unfolding isFor
 own-card c m p q = and-both (eq-eqb (m .letter) (c .letter) (sym p)) (eq-eqb (m .address) (c .address) (sym q))
 
+-- and a message for this card has its letter and its address
+pub for-parts : (m : Message) (c : Setup) → isFor c m ≡ true → (m .letter ≡ c .letter) × (m .address ≡ c .address)
+unfolding isFor
+for-parts m c e = (eqb-true (m .letter) (c .letter) (search ands), eqb-true (m .address) (c .address) (search ands))
+
 -- those of some messages
 module _ (c : Setup) where
   pub ours-none : ours c [] ≡ []

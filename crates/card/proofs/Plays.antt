@@ -39,7 +39,7 @@ same-heard p ws e =
 
 -- g obeys a message
 module _ {T : Type 0} (g : T → Message → Reaction T) where
-  abbrev obeyOne : T → Parsed → Reaction T
+  abbrev pub obeyOne : T → Parsed → Reaction T
   obeyOne t (Heard m) = g t m
   obeyOne t Unheard = record { state = t; reply = [] }
 

@@ -1,14 +1,15 @@
 -- One word, by what it does and by what it has closed: the laws that the code of a word and of a run cites. Assumes nothing.
 use mathlib.Core.Path.{_≡_, refl, sym, ap, _∙_, subst}
-use mathlib.Core.Bool.{true, false}
+use mathlib.Core.Bool.{true, false, false≢true}
 use mathlib.Core.List.{List, []}
 use Prim.Native.Nat.{ℕ, _≤_}
 use lib.Dec.{lit≤}
 use lib.IntN.{ℤ, pos}
-use lib.ListN.{length, getD}
+use lib.ListN.{length, getD, length-set}
 use Rattle.wire.specs.Word.{travelling}
 use Rattle.wire.proofs.Words.{travelling-length}
 use Rattle.sheet.specs.Sheet.{soundSheet}
+use Rattle.sheet.specs.declared.Entry.{Entry}
 use Rattle.sheet.specs.Values.{entryIn}
 use Rattle.sheet.specs.Inner.{entryAt, indexOf}
 use Rattle.sheet.proofs.Marks.{index-entry}
@@ -30,14 +31,16 @@ use Rattle.act.specs.declared.Offer.{Offer}
 use Rattle.act.specs.declared.Said.{Said}
 use Rattle.act.specs.declared.Said.the-variants.{Silence, Reply}
 use Rattle.act.specs.declared.Effect.{Effect}
-use Rattle.act.specs.declared.Store.the-variants.{Keep}
+use Rattle.act.specs.declared.Store.{Store}
+use Rattle.act.specs.declared.Store.the-variants.{Keep, Put}
 use Rattle.act.specs.Cause.{isFor}
 use Rattle.act.specs.Act.{noEffect, respond, act}
 use Rattle.act.specs.Inner.{onScan, onRow}
 use Rattle.act.proofs.Judged.{scan-responds, row-responds}
 use Rattle.act.proofs.OnOffer.{act-neighbour}
+use Rattle.act.proofs.Spoken.{silence, act-speaks}
 use Rattle.card.specs.declared.Card.{Card}
-use Rattle.card.specs.Inner.{isScan}
+use Rattle.card.specs.Inner.{isScan, effectBy}
 use Rattle.card.specs.Turn.{Turn, replyOf, effectOf, withBoth, turned, turn, stored}
 
 -- a word that draws nothing and stores nothing
@@ -48,6 +51,12 @@ stays c = record { card = c; reply = []; store = Keep }
 pub stored-keep : (values : List ℤ) → stored values Keep ≡ values
 unfolding stored
 stored-keep values = refl
+
+-- no value more, and none less
+pub stored-count : (values : List ℤ) (s : Store) → length (stored values s) ≡ length values
+unfolding stored
+stored-count values Keep = refl
+stored-count values (Put i z) = length-set values i z
 
 -- document 02, ticket 1: "Longest reply becomes 33 bytes"
 pub reply-length : (s : Said) → length (replyOf s) ≤ longestReply
@@ -67,6 +76,12 @@ module _ (bench maker : List ℤ) where
     pub effect-unheard : (p : Parsed) → p ≡ Unheard → noEffect o ≡ effectOf bench maker s o values p
     unfolding effectOf
     effect-unheard p h = ap (effectOf bench maker s o values) (sym h)
+
+    -- an answer has the card's letter and address
+    pub effect-speaks : (p : Parsed) (a : Answer) → effectOf bench maker s o values p .said ≡ Reply a → (a .letter ≡ s .letter) × (a .address ≡ s .address)
+    unfolding effectOf
+    effect-speaks (Heard m) a e = act-speaks m bench maker s o values a e
+    effect-speaks Unheard a e = absurd (silence e)
 
     -- under sound sheets the index gives the entries
     effect-index : (places : List ℕ) (m : Message) → soundSheet bench ≡ true → soundSheet maker ≡ true → places ≡ indexOf bench maker
@@ -88,6 +103,21 @@ module _ (bench maker : List ℤ) where
       pub effect-row : isScan p ≡ false → onRow s o (entryAt bench maker places) (λ (i : ℕ). getD values i (pos 0)) m ≡ effectOf bench maker s o values p
       unfolding isScan
       effect-row q = row-responds s o m (entryAt bench maker places) (λ (i : ℕ). getD values i (pos 0)) (sym (ap isScan h) ∙ q) ∙ indexed
+
+    -- so with the code's two functions, under sound sheets with their index
+    module _ (places : List ℕ) (b : soundSheet bench ≡ true) (k : soundSheet maker ≡ true) (e : places ≡ indexOf bench maker) where
+      abbrev responds : (Setup → Offer → (ℕ → Entry) → (ℕ → ℤ) → Message → Effect) → Message → Effect
+      responds on = on s o (entryAt bench maker places) (λ (i : ℕ). getD values i (pos 0))
+
+      pub scan-leads : (p : Parsed) → isScan p ≡ true → effectBy (responds onScan) o p ≡ effectOf bench maker s o values p
+      unfolding effectBy isScan
+      scan-leads (Heard m) q = effect-scan places (Heard m) m refl b k e q
+      scan-leads Unheard q = absurd (false≢true q)
+
+      pub row-leads : (p : Parsed) → isScan p ≡ false → effectBy (responds onRow) o p ≡ effectOf bench maker s o values p
+      unfolding effectBy
+      row-leads (Heard m) q = effect-row places (Heard m) m refl b k e q
+      row-leads Unheard q = effect-unheard Unheard refl
 
   -- ---- a word
 

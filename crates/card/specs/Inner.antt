@@ -1,4 +1,4 @@
--- What only the private functions of this crate use: no public contract cites it.
+-- Definitions for what a run does with a closed message, here and in `bus`. No call of document 01 and no claim cites any of it.
 use mathlib.Core.Bool.{Bool, false, cond}
 use mathlib.Core.List.{List}
 use Prim.Native.Nat.{ℕ}
@@ -7,16 +7,24 @@ use lib.IntN.{ℤ}
 use lib.ListN.{length}
 use Rattle.refusal.specs.Refusal.{Outcome, refused, gave}
 use Rattle.refusal.specs.Buffer.{fitsAt, placed}
+use Rattle.message.specs.declared.Message.{Message}
 use Rattle.message.specs.declared.Parsed.{Parsed}
 use Rattle.message.specs.declared.Parsed.the-variants.{Heard, Unheard}
 use Rattle.reply.specs.Reply.{scanIdentifier}
+use Rattle.act.specs.declared.Offer.{Offer}
 use Rattle.act.specs.declared.Effect.{Effect}
+use Rattle.act.specs.Act.{noEffect}
 use Rattle.card.specs.Turn.{replyOf, stored}
 
 -- a message on `]`
 unfoldable pub isScan : Parsed → Bool
 isScan (Heard m) = eqb (m .identifier) scanIdentifier
 isScan Unheard = false
+
+-- what was closed, by what a message that is heard leads to
+unfoldable pub effectBy : (Message → Effect) → Offer → Parsed → Effect
+effectBy f o (Heard m) = f m
+effectBy f o Unheard = noEffect o
 
 -- what an effect comes to at a place of the buffer: the bytes of its reply or a refusal, the values and the buffer afterwards
 pub record Settled : Type 0 where

@@ -1,18 +1,20 @@
 // What a closed message leads to, decided, then said, then done; and the words of a run.
 ghost use mathlib.Core.Path.{_≡_};
 ghost use mathlib.Core.Bool.{true, false};
-ghost use lib.ListN.{length};
+ghost use lib.IntN.{pos};
+ghost use lib.ListN.{length, getD};
 ghost use Prim.Native.Nat.{_≤_};
 ghost use Rattle.refusal.specs.Refusal.{outcomeOf};
 ghost use Rattle.refusal.specs.Call.{callOf, placeCall};
 ghost use Rattle.reply.specs.Reply.{longestReply};
 ghost use Rattle.hearing.specs.Hearing.{openOf};
 ghost use Rattle.sheet.specs.Sheet.{soundSheet};
-ghost use Rattle.sheet.specs.Inner.{indexOf};
+ghost use Rattle.sheet.specs.Inner.{indexOf, entryAt};
 ghost use Rattle.act.specs.Cause.{whyOf};
+ghost use Rattle.act.specs.Inner.{onScan, onRow};
 ghost use Rattle.card.specs.Turn.{replyOf, effectOf, turned, stored, play};
 ghost use Rattle.card.specs.Cause.{whyClosed};
-ghost use Rattle.card.specs.Inner.{settles, isScan};
+ghost use Rattle.card.specs.Inner.{settles, isScan, effectBy};
 ghost use Rattle.card.specs.Calls.{stepAfter, answered, runAfter, ended};
 use crate::Card;
 use crate::Ran;
@@ -33,17 +35,19 @@ use refusal::Written;
 
 // What is said into the buffer from a place on; silence is nothing.
 fn say(said: Said, out: &mut [u8], at: usize) -> Written
-    requires { ⌜ at ≤ length (now out) ⌝ }
     ensures { λ r. ⌜ callOf r (now (out .exit)) ≡ placeCall (replyOf said) at (now (out .entry)) ⌝ }
 {
     let Said::Reply(answer) = said else {
+        if out.len() < at {
+            return Written::Refused(Refusal::RoomTooShort);
+        }
         return Written::Wrote(0);
     };
     reply::place(answer, out, at)
 }
 
 // A message on `]`.
-fn is_scan(parsed: Parsed) -> bool
+pub fn is_scan(parsed: Parsed) -> bool
     ensures { λ r. ⌜ r ≡ isScan parsed ⌝ }
 {
     let Parsed::Heard(message) = parsed else {
@@ -52,8 +56,8 @@ fn is_scan(parsed: Parsed) -> bool
     message.identifier == reply::SCAN
 }
 
-// What a closed message on `]` leads to, at a card with this setup and offer. `places` is the index of the two sheets.
-fn scan_effect<'a>(
+// What a closed message on `]` leads to, at a card with this setup and offer. `places` is an index of the two sheets.
+pub fn scan_effect<'a>(
     setup: Setup,
     offer: Offer,
     bench: &'a [i32],
@@ -62,8 +66,7 @@ fn scan_effect<'a>(
     values: &[i32],
     parsed: Parsed,
 ) -> Effect
-    requires { ⌜ (soundSheet (now bench) ≡ true) × (soundSheet (now maker) ≡ true) × (now places ≡ indexOf (now bench) (now maker)) × (isScan parsed ≡ true) ⌝ }
-    ensures { λ r. ⌜ r ≡ effectOf (now (bench .entry)) (now (maker .entry)) setup offer (now (values .entry)) parsed ⌝ }
+    ensures { λ r. ⌜ r ≡ effectBy (onScan setup offer (entryAt (now (bench .entry)) (now (maker .entry)) (now (places .entry))) (λ i. getD (now (values .entry)) i (pos 0))) offer parsed ⌝ }
 {
     let Parsed::Heard(message) = parsed else {
         return act::no_effect(offer);
@@ -72,7 +75,7 @@ fn scan_effect<'a>(
 }
 
 // What any other leads to.
-fn effect_of<'a>(
+pub fn effect_of<'a>(
     setup: Setup,
     offer: Offer,
     bench: &'a [i32],
@@ -81,8 +84,7 @@ fn effect_of<'a>(
     values: &[i32],
     parsed: Parsed,
 ) -> Effect
-    requires { ⌜ (soundSheet (now bench) ≡ true) × (soundSheet (now maker) ≡ true) × (now places ≡ indexOf (now bench) (now maker)) × (isScan parsed ≡ false) ⌝ }
-    ensures { λ r. ⌜ r ≡ effectOf (now (bench .entry)) (now (maker .entry)) setup offer (now (values .entry)) parsed ⌝ }
+    ensures { λ r. ⌜ r ≡ effectBy (onRow setup offer (entryAt (now (bench .entry)) (now (maker .entry)) (now (places .entry))) (λ i. getD (now (values .entry)) i (pos 0))) offer parsed ⌝ }
 {
     let Parsed::Heard(message) = parsed else {
         return act::no_effect(offer);
@@ -128,8 +130,7 @@ fn keep(values: &mut [i32], store: Store)
 }
 
 // An effect: said from a place on and, where that fits, stored.
-fn settle(effect: Effect, values: &mut [i32], out: &mut [u8], at: usize) -> Written
-    requires { ⌜ at ≤ length (now out) ⌝ }
+pub fn settle(effect: Effect, values: &mut [i32], out: &mut [u8], at: usize) -> Written
     ensures { λ r. ⌜ record { outcome = outcomeOf r; values = now (values .exit); buffer = now (out .exit) } ≡ settles effect (now (values .entry)) at (now (out .entry)) ⌝ }
 {
     let said = effect.said;

@@ -21,7 +21,7 @@ use refusal::Refusal;
 use refusal::Verdict;
 use sheet::Entry;
 
-mod answering;
+pub mod answering;
 
 // What a card is set to, the open message, and what is on offer.
 pub struct Card {

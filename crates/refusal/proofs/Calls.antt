@@ -14,7 +14,7 @@ use Rattle.refusal.specs.Buffer.{laid, fitsAt, placed}
 use Rattle.refusal.specs.Check.{Check, first, decided}
 use Rattle.refusal.specs.Call.{Call, refuses, roomFor, writes, placeCall}
 use Rattle.refusal.specs.declared.Refusal.{Refusal}
-use Rattle.refusal.specs.declared.Refusal.the-variants.{UnsoundCard, UnsoundSheet, UnsoundValues, WordAbove256, RoomTooShort, NotReply, NotMessage}
+use Rattle.refusal.specs.declared.Refusal.the-variants.{UnsoundCard, UnsoundSheet, UnsoundValues, WordAbove256, RoomTooShort, NotReply, NotMessage, UnsoundBus}
 use Rattle.refusal.specs.declared.Written.{Written}
 use Rattle.refusal.specs.declared.Written.the-variants.{Refused, Wrote}
 
@@ -159,7 +159,7 @@ placed-writes xs out =
 named : ℕ → Refusal
 named n =
     cond (eqb n 1) UnsoundCard (cond (eqb n 2) UnsoundSheet (cond (eqb n 3) UnsoundValues
-    (cond (eqb n 4) WordAbove256 (cond (eqb n 5) RoomTooShort (cond (eqb n 6) NotReply NotMessage)))))
+    (cond (eqb n 4) WordAbove256 (cond (eqb n 5) RoomTooShort (cond (eqb n 6) NotReply (cond (eqb n 7) NotMessage UnsoundBus))))))
 
 named-number : (r : Refusal) → named (numberOf r) ≡ r
 unfolding named
@@ -170,6 +170,7 @@ named-number WordAbove256 = refl
 named-number RoomTooShort = refl
 named-number NotReply = refl
 named-number NotMessage = refl
+named-number UnsoundBus = refl
 
 pub number-injective : (a b : Refusal) → numberOf a ≡ numberOf b → a ≡ b
 number-injective a b e = sym (named-number a) ∙ ap named e ∙ named-number b
@@ -186,6 +187,7 @@ number-small r = leb-true (numberOf r) 16 (all r)
     all RoomTooShort = refl
     all NotReply = refl
     all NotMessage = refl
+    all UnsoundBus = refl
 
 answer : Outcome ℕ → Written
 answer (refused n) = Refused (named n)

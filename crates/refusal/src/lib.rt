@@ -2,7 +2,7 @@
 ghost use mathlib.Core.Path.{_≡_};
 ghost use Rattle.refusal.specs.Refusal.{numberOf};
 
-// Document 01, "Numbers given back when a call is refused", in the order of the numbers.
+// Document 01, "Numbers given back when a call is refused", in the order of the numbers; the last is of document 02, ticket 6.
 pub enum Refusal {
     UnsoundCard,
     UnsoundSheet,
@@ -11,6 +11,7 @@ pub enum Refusal {
     RoomTooShort,
     NotReply,
     NotMessage,
+    UnsoundBus,
 }
 
 // What a call that writes into a buffer answers: how many bytes or words it wrote.
@@ -37,5 +38,6 @@ pub fn number(refusal: Refusal) -> u8
         Refusal::RoomTooShort => 5,
         Refusal::NotReply => 6,
         Refusal::NotMessage => 7,
+        Refusal::UnsoundBus => 8,
     }
 }

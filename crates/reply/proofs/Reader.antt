@@ -26,14 +26,14 @@ use Rattle.number.specs.declared.Data.{Data}
 use Rattle.number.specs.declared.Data.the-variants.{Partial, Invalid}
 use Rattle.number.specs.declared.Data.the-variants as read
 use Rattle.number.specs.Data.{withDecimals, digit, isDigit, digitOf, fits, spellData, readData, spellAll}
-use Rattle.number.proofs.Digits.{digit-is, digit-back, data-length, data-digits}
+use Rattle.number.proofs.Digits.{digit-is, digit-back, data-length}
 use Rattle.number.proofs.Reading.{read-number, read-length}
 use Rattle.number.proofs.Several.{all-length, first-data, nth, each-read}
 use Rattle.message.specs.Message.{star, question, isLetter, isAddress, isIdentifier}
 use Rattle.message.specs.Spell.{spellAddress}
-use Rattle.message.proofs.Messages.{address-most, identifier-no-digit, plain-letter, plain-identifier}
+use Rattle.message.proofs.Messages.{address-most, identifier-no-digit}
 use Rattle.message.proofs.Places.{five-are}
-use Rattle.message.proofs.Spelling.{plain-address, plain-digits, Small, small-append, plain-small}
+use Rattle.message.proofs.Spelling.{Small, small-append, plain-small}
 use Rattle.reply.specs.declared.Mark.{Mark}
 use Rattle.reply.specs.declared.Mark.the-variants as mark
 use Rattle.reply.specs.declared.Content.{Content}
@@ -41,6 +41,7 @@ use Rattle.reply.specs.declared.Content.the-variants.{Empty, Number, Fou
 use Rattle.reply.specs.declared.Answer.{Answer}
 use Rattle.reply.specs.Reply.{scanIdentifier, markOf, spellScan, spellContent, spellAnswer, isNoNumber, fitsContent, isAnswer}
 use Rattle.reply.specs.Read.{charactersOf, guessMark, readOrZero, decimalAt, guessContent, guessBehind, guess, isReply, readCall}
+use Rattle.reply.proofs.Spelled.{beforeStar, star-ends, before-plain}
 
 -- ---- an answer by its parts
 
@@ -139,33 +140,10 @@ unfolding charactersOf travelling
 characters-back [] h = refl
 characters-back (c ∷ cs) h = ap₂ (λ (x : ℕ) (xs : List ℕ). x ∷ xs) (written-low c (h .0)) (characters-back cs (h .1))
 
-pub mark-small : (k : Mark) → markOf k < 128
-mark-small mark.Accepted = lit< tt
-mark-small mark.Offered = lit< tt
-mark-small mark.Declined = lit< tt
-
-data-small : (x : Decimal) → Small (spellData x)
-data-small x = plain-small (spellData x) (plain-digits (spellData x) (data-digits x))
-
-all-small : (xs : List Decimal) → Small (spellAll xs)
-unfolding spellAll
-all-small [] = tt
-all-small (x ∷ xs) = small-append (spellData x) (spellAll xs) (data-small x) (all-small xs)
-
-content-small : (x : Content) → Small (spellContent x)
-unfolding spellContent spellScan digit
-content-small Empty = tt
-content-small (Number x) = data-small x
-content-small (Four a b c d) = (lit< tt, (lit< tt, all-small (a ∷ b ∷ c ∷ d ∷ [])))
-content-small (Five a b c d e) = (lit< tt, (lit< tt, all-small (a ∷ b ∷ c ∷ d ∷ e ∷ [])))
-
 pub answer-small : (a : Answer) → AnswerParts a → Small (spellAnswer a)
-unfolding spellAnswer
-answer-small a p = (
-  plain-letter (a .letter) (p .is-letter) .small,
-  small-append (spellAddress (a .address)) (a .identifier ∷ (spellContent (a .content) ++ (markOf (a .mark) ∷ star ∷ []))) (plain-small (spellAddress (a .address)) (plain-address (a .address) (p .is-address)))
-      (plain-identifier (a .identifier) (p .is-identifier) .small, small-append (spellContent (a .content)) (markOf (a .mark) ∷ star ∷ []) (content-small (a .content)) (mark-small (a .mark), (lit< tt, tt))),
-)
+answer-small a p =
+    rw (star-ends a)
+    (small-append (beforeStar a) (star ∷ []) (plain-small (beforeStar a) (before-plain a (p .is-letter) (p .is-address) (p .is-identifier))) (lit< tt, tt))
 
 -- ---- the guess at what is spelled
 

@@ -1,11 +1,12 @@
--- A reply's spelling: at most 33 bytes, and the parts of which it is put together. Assumes nothing.
+-- A reply's spelling: at most 33 bytes, the last a `*` and no other, and the parts of which it is put together. Assumes nothing.
 use mathlib.Core.Path.{_≡_, refl, sym, ap, ap₂, _∙_, subst}
+use mathlib.Core.Bool.{true}
 use mathlib.Core.List.{List, [], _∷_, _++_, append-assoc}
 use Prim.Native.Nat.{ℕ, _+_, _/_, _%_, _<_, _≤_}
 use Prim.Native.Char.{code}
 use native.Mathlib.Omega.{arith}
 use borrow.Author.Tests.{le-leb, lt-leb}
-use lib.Dec.{lit≤}
+use lib.Dec.{lit<, lit≤}
 use lib.ListN.{length, take, length-append}
 use Rattle.refusal.specs.Buffer.{placed}
 use Rattle.refusal.specs.Refusal.{gave, outcomeOf}
@@ -20,11 +21,14 @@ use Rattle.wire.specs.Word.{travelling}
 use Rattle.wire.proofs.Words.{travelling-append, travelling-length}
 use Rattle.number.specs.declared.Decimal.{Decimal}
 use Rattle.number.specs.Data.{digit, spellData, spellAll}
-use Rattle.number.proofs.Digits.{data-length}
+use Rattle.number.proofs.Digits.{digit-is, data-length, data-digits}
 use Rattle.number.proofs.Several.{all-length}
-use Rattle.message.specs.Message.{star}
+use Rattle.message.specs.Message.{star, isLetter, isAddress, isIdentifier}
 use Rattle.message.specs.Spell.{spellAddress}
-use Rattle.message.proofs.Spelling.{address-length}
+use Rattle.message.proofs.Messages.{PlainChar, Plain, plain-append, plain-letter, plain-digit, plain-identifier}
+use Rattle.message.proofs.Spelling.{plain-digits, plain-address, address-length}
+use Rattle.reply.specs.declared.Mark.{Mark}
+use Rattle.reply.specs.declared.Mark.the-variants as mark
 use Rattle.reply.specs.declared.Content.{Content}
 use Rattle.reply.specs.declared.Content.the-variants.{Empty, Number, Four, Five}
 use Rattle.reply.specs.declared.Answer.{Answer}
@@ -99,6 +103,48 @@ answer-length a = omega (arith, answer-sum a, front-length (a .letter) (a .addre
 pub answer-some : (a : Answer) → 0 < length (spellAnswer a)
 unfolding spellAnswer
 answer-some a = omega arith
+
+-- ---- its characters
+
+data-plain : (x : Decimal) → Plain (spellData x)
+data-plain x = plain-digits (spellData x) (data-digits x)
+
+all-plain : (xs : List Decimal) → Plain (spellAll xs)
+unfolding spellAll
+all-plain [] = tt
+all-plain (x ∷ xs) = plain-append (spellData x) (spellAll xs) (data-plain x) (all-plain xs)
+
+-- how many digits there are, and the digits
+scan-plain : (c d : ℕ) (xs : List Decimal) → c ≤ 9 → d ≤ 9 → Plain (digit c ∷ digit d ∷ spellAll xs)
+scan-plain c d xs p q = (plain-digit (digit c) (digit-is c p), (plain-digit (digit d) (digit-is d q), all-plain xs))
+
+content-plain : (x : Content) → Plain (spellContent x)
+unfolding spellContent spellScan
+content-plain Empty = tt
+content-plain (Number x) = data-plain x
+content-plain (Four a b c d) = scan-plain 2 0 (a ∷ b ∷ c ∷ d ∷ []) (lit≤ tt) (lit≤ tt)
+content-plain (Five a b c d e) = scan-plain 2 5 (a ∷ b ∷ c ∷ d ∷ e ∷ []) (lit≤ tt) (lit≤ tt)
+
+pub mark-plain : (k : Mark) → PlainChar (markOf k)
+mark-plain mark.Accepted = record { small = lit< tt; no-star = refl }
+mark-plain mark.Offered = record { small = lit< tt; no-star = refl }
+mark-plain mark.Declined = record { small = lit< tt; no-star = refl }
+
+-- those before the `*`
+unfoldable pub beforeStar : Answer → List ℕ
+beforeStar a = a .letter ∷ (spellAddress (a .address) ++ (a .identifier ∷ (spellContent (a .content) ++ (markOf (a .mark) ∷ []))))
+
+pub star-ends : (a : Answer) → spellAnswer a ≡ beforeStar a ++ (star ∷ [])
+unfolding spellAnswer beforeStar
+star-ends a = simp append-assoc
+
+pub before-plain : (a : Answer) → isLetter (a .letter) ≡ true → isAddress (a .address) ≡ true → isIdentifier (a .identifier) ≡ true → Plain (beforeStar a)
+unfolding beforeStar
+before-plain a l d i = (
+  plain-letter (a .letter) l,
+  plain-append (spellAddress (a .address)) (a .identifier ∷ (spellContent (a .content) ++ (markOf (a .mark) ∷ []))) (plain-address (a .address) d)
+      (plain-identifier (a .identifier) i, plain-append (spellContent (a .content)) (markOf (a .mark) ∷ []) (content-plain (a .content)) (mark-plain (a .mark), tt)),
+)
 
 -- ---- part by part into a buffer
 

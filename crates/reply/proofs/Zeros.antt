@@ -28,7 +28,8 @@ use Rattle.reply.specs.declared.Content.the-variants.{Empty, Number, Fou
 use Rattle.reply.specs.declared.Answer.{Answer}
 use Rattle.reply.specs.Reply.{markOf, spellScan, spellContent, spellAnswer, fitsContent}
 use Rattle.reply.specs.Read.{charactersOf, guess, isReply, readCall}
-use Rattle.reply.proofs.Reader.{mark-small, answer-parts, number-content, answer-small, characters-back, read-reply, read-no-reply, read-exact}
+use Rattle.reply.proofs.Spelled.{mark-plain}
+use Rattle.reply.proofs.Reader.{answer-parts, number-content, answer-small, characters-back, read-reply, read-no-reply, read-exact}
 
 -- an address and an identifier, which is no digit and so ends it
 module _ (i j : ℕ) (xs ys : List ℕ) (p : isDigit i ≡ false) (q : isDigit j ≡ false) where
@@ -85,7 +86,7 @@ module _ (l a i : ℕ) (x : Numeral) (k : Mark) (p : isLetter l ≡ true) (q : i
   small = (
     plain-letter l p .small,
     small-append (spellAddress a) (i ∷ (spellNumeral x ++ (markOf k ∷ star ∷ []))) (plain-small (spellAddress a) (plain-address a q))
-        (plain-identifier i r .small, small-append (spellNumeral x) (markOf k ∷ star ∷ []) (plain-small (spellNumeral x) (plain-digits (spellNumeral x) (numeral-digits x))) (mark-small k, (lit< tt, tt))),
+        (plain-identifier i r .small, small-append (spellNumeral x) (markOf k ∷ star ∷ []) (plain-small (spellNumeral x) (plain-digits (spellNumeral x) (numeral-digits x))) (mark-plain k .small, (lit< tt, tt))),
   )
 
   no-answer : (b : Answer) → readCall (travelling (withMinusZero l a i x k)) ≡ gave b → ⊥

@@ -234,7 +234,8 @@ pub fn is_answer(answer: Answer) -> bool
         & fits_content(identifier, mark, content)
 }
 
-fn equal(a: &[u8], b: &[u8]) -> bool
+// The same bytes.
+pub fn equal(a: &[u8], b: &[u8]) -> bool
     ensures { λ r. ⌜ r ≡ same eqb (now (a .entry)) (now (b .entry)) ⌝ }
 {
     if a.len() != b.len() {

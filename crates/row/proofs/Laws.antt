@@ -4,12 +4,14 @@ use mathlib.Core.Bool.{Bool, true, false, _&&_}
 use mathlib.Core.List.{List, [], _∷_, _++_, map, append-nil}
 use Prim.Native.Nat.{ℕ, zero, suc, _+_, _<_, _≤_}
 use native.Mathlib.Omega.{arith}
-use borrow.Author.Tests.{le-leb, lt-leb}
+use borrow.Author.Tests.{leb-true, le-leb, lt-leb}
+use lib.Dec.{leb}
 use lib.IntN.{ℤ, pos}
 use lib.ListN.{length, getD, drop, set, length-append, length-map, drop-of-length-le}
 use lib.Seq.{getD-drop, drop-drop}
 use Rattle.refusal.specs.Buffer.{laid, fitsAt, placed}
-use Rattle.refusal.proofs.Buffers.{placed-front, placed-one, placed-both}
+use Rattle.refusal.proofs.Logic.{by-test}
+use Rattle.refusal.proofs.Buffers.{placed-front, placed-length, placed-one, placed-both}
 use Rattle.sheet.specs.Sheet.{at}
 use Rattle.hearing.specs.declared.Pending.{Pending}
 use Rattle.hearing.specs.Hearing.{openOf}
@@ -96,6 +98,14 @@ unfolding pendingRow
 pending-placed p row h =
     let x = pos (length (openOf p)) in
     ap (placed (map pos (p .chars)) 3) (placed-one x 2 row (omega arith)) ∙ placed-both (x ∷ []) 2 row (omega arith) (map pos (p .chars))
+
+-- no number more, and none less
+pub stored-length : (c : Card) (row : List ℤ) → length (storedIn c row) ≡ length row
+unfolding storedIn fitsAt
+stored-length c row =
+    by-test (leb (2 + length (changing c)) (length row))
+    (λ t. rw t (placed-length (changing c) 2 row (leb-true (2 + length (changing c)) (length row) t)))
+    (λ t. rw t)
 
 module _ (c : Card) (row : List ℤ) (ten : length (c .pending .chars) ≡ 10) where
   pub changing-length : length (changing c) ≡ 14

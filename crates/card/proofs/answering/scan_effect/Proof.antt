@@ -1,22 +1,17 @@
--- `card::scan_effect` meets its contract: the arm says whether a message was heard, and the index gives the entries. Assumes nothing.
-use mathlib.Core.Path.{_∙_}
+-- `card::scan_effect` meets its contract: the arm says whether a message was heard. Assumes nothing.
+use mathlib.Core.Path.{sym, ap, _∙_}
+use Rattle.card.specs.Inner.{effectBy}
 use borrow.Author.Needs.{needs}
-use Rattle.card.proofs.Turns.{effect-unheard, effect-scan}
 use Rattle.card.proofs.answering.scan_effect.Statement.{statement}
 use Rattle.card.proofs.answering.scan_effect.Tie as tie
 
 returns : tie.Need-returns
-returns c =
-    let a = c .before .before .before .before .args in
-    c .no-effect .ensures ∙ effect-unheard (a .bench .now) (a .maker .now) (a .setup) (a .offer) (a .values .now) (a .parsed) (c .before .enum-told .given .1)
+unfolding effectBy
+returns c = c .no-effect .ensures ∙ ap (effectBy _ (c .before .before .before .before .args .offer)) (sym (c .before .enum-told .given .1))
 
 returns-2 : tie.Need-returns-2
-returns-2 c =
-    let s = c .before .before .before .before .before in
-    let a = s .args in
-    let m = c .before .before .parsed .given in
-    c .on-scan .ensures
-    ∙ effect-scan (a .bench .now) (a .maker .now) (a .setup) (a .offer) (a .values .now) (a .places .now) (a .parsed) (m .0 .0) (m .1) (s .pre .0) (s .pre .1) (s .pre .2) (s .pre .3)
+unfolding effectBy
+returns-2 c = c .on-scan .ensures ∙ ap (effectBy _ (c .before .before .before .before .before .args .offer)) (sym (c .before .before .parsed .given .1))
 
 pub scan-effect-spec : {M : Type 1} → statement M
 scan-effect-spec = tie.close (tie.spec (λ c. search needs) (λ c. search needs) (λ c κs. search needs) returns (λ c κs. search needs) returns-2)

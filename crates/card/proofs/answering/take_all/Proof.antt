@@ -2,7 +2,6 @@
 -- from the first word that closes a message on; a word that is left closes one; and the open message has ten places. Assumes nothing.
 use mathlib.Core.Path.{_≡_, refl, sym, ap, ap₂, _∙_, subst}
 use mathlib.Core.Logic.{⊎-elim}
-use mathlib.Core.Bool.{Bool, true}
 use mathlib.Core.List.{List}
 use Prim.Native.Nat.{ℕ, _+_, _-_, _≤_, _<_}
 use native.Mathlib.Omega.{arith}
@@ -16,8 +15,6 @@ use Rattle.hearing.specs.declared.Halt.{Halt}
 use Rattle.hearing.specs.Hearing.{none, openOf, hear}
 use Rattle.hearing.specs.Inner.{Reached, toClose}
 use Rattle.hearing.proofs.Close.{reached-in, reached-hears, reached-long}
-use Rattle.sheet.specs.Sheet.{soundSheet}
-use Rattle.sheet.specs.Inner.{indexOf}
 use Rattle.act.specs.declared.Setup.{Setup}
 use Rattle.act.specs.declared.Offer.{Offer}
 use Rattle.card.specs.declared.Card.{Card}
@@ -26,8 +23,8 @@ use Rattle.card.specs.declared.RunAnswer.the-variants.{Took}
 use Rattle.card.specs.Calls.{runAfter, ended}
 use Rattle.card.specs.Run.{Reaction, Played, stopped, playing}
 use Rattle.card.specs.Turn.{Turn, turned, stored, Instrument, hears, play}
-use Rattle.card.specs.Inner.{isScan, Settled}
-use Rattle.card.proofs.Turns.{effects, turn-closes}
+use Rattle.card.specs.Inner.{Settled}
+use Rattle.card.proofs.Turns.{effects, scan-leads, row-leads, turn-closes}
 use Rattle.card.proofs.Runs.{Carried, playedFrom, starts, begins, turned as turned-on, carried-reached, no-room, ends, over}
 use Rattle.card.proofs.Plays.{holding, carriedOut, does, obeys-quiet, hears-obeys}
 use Rattle.card.proofs.Settled.{Done, Undone, gave-done, refused-undone}
@@ -146,22 +143,13 @@ module _ (l : tie.At-loop Inv-loop μ-loop) where
 slice-aggregate-closed : tie.Need-slice-aggregate-closed Inv-loop μ-loop
 slice-aggregate-closed c = sym (c .before .before .before .loop .inv .2)
 
--- what the effects' functions ask for
+-- what was closed
 module _ (i : tie.After-is-scan Inv-loop μ-loop) where
   abbrev stands : tie.At-loop Inv-loop μ-loop
   stands = i .before .before .before .before .before
 
   abbrev parsed : Parsed
   parsed = i .before .closed .result
-
-  asked : {b : Bool} → i .is-scan .result ≡ b → (soundSheet (bench (begin stands)) ≡ true) × (soundSheet (maker (begin stands)) ≡ true) × (stands .before .before .index .result ≡ indexOf (bench (begin stands)) (maker (begin stands))) × (isScan parsed ≡ b)
-  asked q = (start (begin stands) .pre .0, start (begin stands) .pre .1, stands .before .before .index .ensures, sym (i .is-scan .ensures) ∙ q)
-
-scan-effect-requires : tie.Need-scan-effect-requires Inv-loop μ-loop
-scan-effect-requires c κs = asked (c .before .before) (c .before .if3 .taken)
-
-effect-of-requires : tie.Need-effect-of-requires Inv-loop μ-loop
-effect-of-requires c κs = asked (c .before .before) (c .before .if3 .left)
 
 -- the effect of the closed message: the word's turn as the code has it
 module _ (e : tie.Joined3 Inv-loop μ-loop) where
@@ -175,7 +163,15 @@ module _ (e : tie.Joined3 Inv-loop μ-loop) where
   in-words = e .before .before .before .before .if2 .taken
 
   is-effect : e .if3 .effect ≡ effects (bench (begin at-loop)) (maker (begin at-loop)) (here at-loop .card) (at-loop .loop .values) (parsed (e .before))
-  is-effect = ⊎-elim (λ w. w .3 ∙ w .2 .ensures) (λ w. w .3 ∙ w .2 .ensures) (e .if3 .came)
+  is-effect =
+      let t = begin at-loop in
+      let i = here at-loop in
+      let s = start t .pre in
+      let x = at-loop .before .before .index .ensures in
+      ⊎-elim
+      (λ w. w .3 ∙ w .2 .ensures ∙ scan-leads (bench t) (maker t) (i .card .setup) (i .card .offer) (i .values) _ (s .0) (s .1) x _ (sym (e .before .is-scan .ensures) ∙ w .0 .taken))
+      (λ w. w .3 ∙ w .2 .ensures ∙ row-leads (bench t) (maker t) (i .card .setup) (i .card .offer) (i .values) _ (s .0) (s .1) x _ (sym (e .before .is-scan .ensures) ∙ w .0 .left))
+      (e .if3 .came)
 
   is-turn : leads ≡ takes (begin at-loop) (here at-loop) (getD (words (begin at-loop)) (at-loop .loop .halt .at) 0)
   unfolding openOf turned
@@ -186,11 +182,6 @@ module _ (e : tie.Joined3 Inv-loop μ-loop) where
       ap (carriedOut i none) is-effect
       ∙ ap (λ (o : Parsed). carriedOut i none (effects (bench t) (maker t) (i .card) (i .values) o)) (e .before .before .closed .ensures)
       ∙ ap react (sym (turn-closes (bench t) (maker t) (i .card) (i .values) (getD (words t) (at-loop .loop .halt .at) 0) _ (at-loop .loop .inv .1 in-words)))
-
-settle-requires : tie.Need-settle-requires Inv-loop μ-loop
-settle-requires c κs =
-    let l = at-loop (c .before .before) in
-    omega (arith, l .loop .inv .0 .at-in, l .loop .inv .0 .filling .long)
 
 -- what it has come to
 module _ (s : tie.After-settle Inv-loop μ-loop) where
@@ -324,6 +315,6 @@ returns-3 c =
 pub take-all-spec : {M : Type 1} → statement M
 take-all-spec = tie.close (tie.spec
     Inv-loop μ-loop (λ c κs. search needs) (λ c κs. search needs) returns (λ c κs. search needs) (λ c. search needs) loop-holds
-    slice-aggregate-closed (λ c κs. search needs) (λ c κs. search needs) scan-effect-requires effect-of-requires settle-requires
+    slice-aggregate-closed (λ c κs. search needs) (λ c κs. search needs) (λ c κs. search needs) (λ c κs. search needs) (λ c κs. search needs)
     (λ c. search needs) (λ c. search needs) (λ c κs. search needs) same-length same-length-2 returns-2 add-to-close (λ c κs. search needs)
     add-at loop-less loop-again (λ c κs. search needs) same-length-3 same-length-4 returns-3)

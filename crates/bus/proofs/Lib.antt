@@ -1,0 +1,7 @@
+pub mod Parts
+pub mod Hearing
+pub mod Instruments
+pub mod Sharing
+pub mod Checks
+pub mod Apart
+pub mod Standing
