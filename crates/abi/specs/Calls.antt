@@ -1,4 +1,4 @@
--- The calls that take a card as a row of twenty-three numbers: what each gives back, and all that it leaves, for every input.
+-- The calls that take a card, or many, as rows of twenty-three numbers: what each gives back, and all that it leaves, for every input.
 use mathlib.Core.Bool.{cond}
 use mathlib.Core.List.{List, [], _∷_}
 use Prim.Native.Nat.{ℕ}
@@ -13,6 +13,7 @@ use Rattle.card.specs.Refusals.{cardChecks}
 use Rattle.act.specs.Cause.{Why}
 use Rattle.card.specs.Calls.{After, WordAnswer, bytesOf, stepCall, Took, runCall}
 use Rattle.row.specs.Row.{isRow, cardOf, storedIn}
+use Rattle.bus.specs.Rows.{rowsChecks, RowsAfter, rowsCall}
 use Rattle.abi.specs.Result.{minusNumber, resultOf}
 
 -- the row afterwards: the card is stored back only when the call is served
@@ -77,9 +78,12 @@ runResult (refused n) = minusNumber n
 runResult (gave t) = pos 0
 
 -- words taken and bytes written, in the first two counts
+abbrev pub countsIn : ℕ → ℕ → List ℕ → List ℕ
+countsIn words bytes counts = set (set counts 0 words) 1 bytes
+
 abbrev pub countsAfter : Outcome Took → List ℕ → List ℕ
 countsAfter (refused n) counts = counts
-countsAfter (gave t) counts = set (set counts 0 (t .words)) 1 (t .bytes)
+countsAfter (gave t) counts = countsIn (t .words) (t .bytes) counts
 
 abbrev pub runOn : List ℤ → List ℕ → After Took → ManyWords
 runOn row counts a =
@@ -91,3 +95,14 @@ kavRun row bench maker values ws out counts =
     (cond (ltb (length counts) 2) (manyWords (tooShort (first (cardChecks (cardOf row) bench maker values ws))) row values out counts)
     (runOn row counts (runCall (cardOf row) bench maker values ws out)))
     (manyWords (minusNumber (numberOf UnsoundCard)) row values out counts)
+
+-- ---- a run over many cards
+
+-- what the call over their rows leaves
+abbrev pub busOn : List ℕ → RowsAfter → ManyWords
+busOn counts a = manyWords (runResult (a .outcome)) (a .numbers) (a .values) (a .buffer) (countsAfter (a .outcome) counts)
+
+unfoldable pub kavBusRun : List ℤ → List ℤ → List ℤ → List ℤ → List ℕ → List ℕ → List ℕ → ManyWords
+kavBusRun numbers bench maker values ws out counts =
+    cond (ltb (length counts) 2) (manyWords (tooShort (first (rowsChecks numbers bench maker values ws))) numbers values out counts)
+    (busOn counts (rowsCall numbers bench maker values ws out))

@@ -5,7 +5,7 @@ ghost use mathlib.Core.List.{List, [], _∷_};
 ghost use Prim.Native.Nat.{ℕ, _≤_};
 ghost use lib.IntN.{ℤ, pos};
 ghost use lib.ListN.{length};
-ghost use Rattle.refusal.specs.Refusal.{outcomeOf, numberOf};
+ghost use Rattle.refusal.specs.Refusal.{outcomeOf, verdictOf, numberOf};
 ghost use Rattle.refusal.specs.Check.{first};
 ghost use Rattle.refusal.specs.Buffer.{laid};
 ghost use Rattle.hearing.specs.Normal.{normalCall};
@@ -17,7 +17,7 @@ ghost use Rattle.card.specs.Refusals.{cardChecks};
 ghost use Rattle.card.specs.Calls.{stepAfter, runAfter};
 ghost use Rattle.abi.specs.Result.{minusNumber, countResult, resultOf, filled, given, asked, writeAsked, lineAsked};
 ghost use Rattle.abi.specs.Rows.{pairs, answerRow, readInto, lookupInto};
-ghost use Rattle.abi.specs.Calls.{tooShort, oneWord, causeIn, stepOn, kavStep, manyWords, runOn, kavRun};
+ghost use Rattle.abi.specs.Calls.{tooShort, oneWord, causeIn, stepOn, kavStep, manyWords, countsIn, runOn, kavRun};
 use act::causes::Cause;
 use card::Card;
 use card::Ran;
@@ -34,11 +34,12 @@ use reply::Content;
 use reply::Reading;
 
 mod asking;
+mod many;
 
 // ---- results
 
 // Minus the refusal's number.
-fn minus_number(refusal: Refusal) -> i64
+pub(crate) fn minus_number(refusal: Refusal) -> i64
     ensures { λ r. ⌜ r ≡ minusNumber (numberOf refusal) ⌝ }
 {
     -(refusal::number(refusal) as i64)
@@ -240,6 +241,16 @@ pub extern "C" fn kav_lookup<'a>(
 }
 
 // A call with no room for what it gives beside its result: the numbers before 5, then 5.
+pub(crate) fn without_room(verdict: Verdict) -> i64
+    ensures { λ r. ⌜ r ≡ tooShort (verdictOf verdict) ⌝ }
+{
+    match verdict {
+        Verdict::Refused(refusal) => minus_number(refusal),
+        Verdict::Passed => minus_number(Refusal::RoomTooShort),
+    }
+}
+
+// The same of a call on a card.
 fn too_short<'a>(
     card: Card,
     bench: &'a [i32],
@@ -249,10 +260,7 @@ fn too_short<'a>(
 ) -> i64
     ensures { λ r. ⌜ r ≡ tooShort (first (cardChecks card (now (bench .entry)) (now (maker .entry)) (now (values .entry)) (now (words .entry)))) ⌝ }
 {
-    match card::check(card, bench, maker, values, words) {
-        Verdict::Refused(refusal) => minus_number(refusal),
-        Verdict::Passed => minus_number(Refusal::RoomTooShort),
-    }
+    without_room(card::check(card, bench, maker, values, words))
 }
 
 // A cause's code and position, in the first two places.
@@ -311,6 +319,15 @@ pub extern "C" fn kav_step<'a>(
     )
 }
 
+// Words taken and bytes written, in the first two counts.
+pub(crate) fn put_counts(words: usize, bytes: usize, counts: &mut [u64])
+    requires { ⌜ 2 ≤ length (now counts) ⌝ }
+    ensures { λ _. ⌜ now (counts .exit) ≡ countsIn words bytes (now (counts .entry)) ⌝ }
+{
+    counts[0] = words as u64;
+    counts[1] = bytes as u64;
+}
+
 // A run's answer as a result; when the run is served, the card is stored back, and the words taken and bytes written are counted.
 fn ran(run: Ran, row: &mut [i32], counts: &mut [u64]) -> i64
     requires { ⌜ 2 ≤ length (now counts) ⌝ }
@@ -321,8 +338,7 @@ fn ran(run: Ran, row: &mut [i32], counts: &mut [u64]) -> i64
         RunAnswer::Refused(refusal) => minus_number(refusal),
         RunAnswer::Took { words, bytes } => {
             row::store(run.card, row);
-            counts[0] = words as u64;
-            counts[1] = bytes as u64;
+            put_counts(words, bytes, counts);
             0
         }
     }
