@@ -43,9 +43,13 @@ use Rattle.card.specs.Turn.{effectOf, turned, turn, stored}
 use Rattle.card.specs.Cause.{whyClosed, whyAfter, whyTo}
 use Rattle.card.specs.Refusals.{isRevision, soundScan, soundSetup, soundCard, offerable, soundOffer, cardChecks, stepChecks}
 use Rattle.card.specs.Calls.{stepCall, runCall}
+use Rattle.bus.specs.Bus.{parts, joined, instruments, hearsAll}
+use Rattle.bus.specs.Refusals.{alike, apart, sameOpen, together, soundBus, fitsSheets, soundParts, busChecks}
+use Rattle.bus.specs.Calls.{busCall}
 use Rattle.demands.specs.Terms.{Sound}
 use Rattle.demands.specs.Causes.{sameWhy, isAmong, gaveCause, drawsIt, causeCases, everyCause, hasCase}
 use Rattle.demands.specs.Zeros.{zeroForms, wroteThese, isOwnForm}
+use Rattle.demands.specs.Bus.{repliesIn, spokenBy, onlyBy, standsAt, threeCards, valuesWith, takes, allAnswer, BusCase, passesBus, busCases, picks, pickCases, cardsUpTo, halfOpen, numberGiven, givesBoth, busRefusals, BusTables}
 use Rattle.demands.specs.Bench.{benchRows, benchValues, cardWith, Case, benchCases, twentyNeighbours, moreCases, firstCases, secondCases, scanCases, noReplies, timeRow, scanValues, equalZ, took, answersAll, passesOn, passes, passesScan, isNoReply}
 
 -- what a table computes through
@@ -131,3 +135,25 @@ bench-sound = record { card-sound = refl; sheets-sound = refl; offer-sound = ref
 pub both-revisions : isRevision 2 ≡ isRevision 1
 unfolding computed
 both-revisions = refl
+
+-- ---- many cards on one pair
+
+-- what their tables compute through too
+computed-bus : List BusCase → Bool
+unfolding computed parts joined instruments hearsAll alike apart sameOpen together soundBus fitsSheets soundParts busChecks busCall standsAt threeCards valuesWith takes allAnswer passesBus
+computed-bus xs = every passesBus xs
+
+bus-answered : every passesBus busCases ≡ true
+unfolding computed computed-bus busCases
+bus-answered = refl
+
+own-replies : every picks pickCases ≡ true
+unfolding computed computed-bus charactersOf guessMark readOrZero decimalAt guessContent guessBehind guess isReply readCall isNoNumber fitsContent isAnswer repliesIn spokenBy onlyBy picks pickCases
+own-replies = refl
+
+bus-refused : every givesBoth busRefusals ≡ true
+unfolding computed computed-bus cardsUpTo halfOpen numberGiven givesBoth busRefusals
+bus-refused = refl
+
+pub bus-tables : BusTables
+bus-tables = record { answered = bus-answered; own-replies = own-replies; refused = bus-refused }

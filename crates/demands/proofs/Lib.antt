@@ -9,3 +9,7 @@ pub mod Recordings
 pub mod Neighbours
 pub mod Causes
 pub mod Zeros
+pub mod Pair
+pub mod Picked
+pub mod Alone
+pub mod Isolated

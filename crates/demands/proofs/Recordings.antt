@@ -34,7 +34,7 @@ pub record Parts (ws out xs : List ℕ) : Type 0 where
   pub is-normal : xs ≡ normal ws
   pub room : length xs ≤ length out
 
-parts : (ws out xs : List ℕ) → Wrote ws out xs → Parts ws out xs
+pub parts : (ws out xs : List ℕ) → Wrote ws out xs → Parts ws out xs
 parts ws out xs w =
     let n = wrote-normal ws out (length xs) (w .gives) in
     let e = sym (w .front) ∙ n .front in
@@ -55,7 +55,7 @@ same-messages a b xs ys p q = (λ e. normal-same a b .0 (sym p ∙ e ∙ q), λ 
 
 -- ---- a run with room for every reply
 
-all-replies : (bench maker : List ℤ) (c : Card) (values : List ℤ) (ws : List ℕ) → all (hears bench maker) (record { card = c; values = values }) ws .bytes ≡ replies bench maker c values ws
+pub all-replies : (bench maker : List ℤ) (c : Card) (values : List ℤ) (ws : List ℕ) → all (hears bench maker) (record { card = c; values = values }) ws .bytes ≡ replies bench maker c values ws
 unfolding replies
 all-replies bench maker c values [] = ap (λ (p : Played Instrument). p .bytes) (all-end (hears bench maker) (record { card = c; values = values }))
 all-replies bench maker c values (w ∷ ws) =
@@ -70,13 +70,13 @@ module _ (bench maker : List ℤ) (c : Card) (values : List ℤ) (s : Sound benc
   ends ws = all (hears bench maker) start ws
 
   module _ (ws out : List ℕ) (n : ℕ) (v : validWords ws ≡ true) (b : length (ends ws .bytes) ≡ n) (h : n ≤ length out) where
-    served : runCall c bench maker values ws out ≡ ended (ends ws) out
+    pub served : runCall c bench maker values ws out ≡ ended (ends ws) out
     served = run-served c bench maker values ws out (passed bench maker c values s ws v) ∙ ap (λ (p : Played Instrument). ended p out) (run-all (hears bench maker) start (length out) ws (omega arith))
 
-    outcome : runCall c bench maker values ws out .outcome ≡ gave (record { words = length ws; bytes = n })
+    pub outcome : runCall c bench maker values ws out .outcome ≡ gave (record { words = length ws; bytes = n })
     outcome = ap (λ (r : After Took). r .outcome) served ∙ (λ j. gave (record { words = all-taken (hears bench maker) start ws j; bytes = b j }))
 
-    bytes-written : take n (runCall c bench maker values ws out .buffer) ≡ ends ws .bytes
+    pub bytes-written : take n (runCall c bench maker values ws out .buffer) ≡ ends ws .bytes
     bytes-written =
         ap (λ (r : After Took). take n (r .buffer)) served
         ∙ ap (λ (k : ℕ). take k (laid (ends ws .bytes) out)) (sym b)

@@ -26,6 +26,10 @@ use Rattle.card.specs.Calls.{After, kept, WordAnswer, answered, Took, ended}
 use Rattle.card.proofs.Steps.{step-is, run-is}
 use Rattle.listing.specs.Line.{line}
 use Rattle.listing.proofs.Calls.{line-is}
+use Rattle.bus.specs.Refusals.{busChecks}
+use Rattle.bus.specs.Calls as bus
+use Rattle.bus.specs.Rows.{RowsAfter, cardsOf, rowsChecks}
+use Rattle.bus.proofs.Sharing.{plays, bus-is, rowsKept, rowsEnded, rows-is}
 use Rattle.demands.specs.Demand1.{Refuses, Kept, Demand1}
 
 -- a call that keeps everything with a number, or serves
@@ -83,4 +87,12 @@ demand-1 = record {
   read = λ bs.
       refuses-decided (λ (o : Outcome Answer). o) (λ (o : Outcome Answer). Unit {0}) (refuseIf (not (isReply bs)) NotReply ∷ []) refused (gave (guess (charactersOf bs))) (guess (charactersOf bs))
       (λ n. refl) (λ n. tt) refl (read-is bs);
+  bus = λ cs bench maker values ws out.
+      let p = plays cs bench maker values ws out in
+      refuses-decided (λ (s : bus.After). s .outcome) (λ (s : bus.After). (s .cards ≡ cs) × (s .values ≡ values) × (s .buffer ≡ out)) (busChecks cs bench maker values ws) (bus.kept cs values out) (bus.ended p out) (record { words = p .taken; bytes = length (p .bytes) })
+      (λ n. refl) (λ n. (refl, refl, refl)) refl (bus-is cs bench maker values ws out);
+  bus-rows = λ numbers bench maker values ws out.
+      let p = plays (cardsOf numbers) bench maker values ws out in
+      refuses-decided (λ (s : RowsAfter). s .outcome) (λ (s : RowsAfter). (s .numbers ≡ numbers) × (s .values ≡ values) × (s .buffer ≡ out)) (rowsChecks numbers bench maker values ws) (rowsKept numbers values out) (rowsEnded numbers bench maker values ws out) (record { words = p .taken; bytes = length (p .bytes) })
+      (λ n. refl) (λ n. (refl, refl, refl)) refl (rows-is numbers bench maker values ws out);
 }

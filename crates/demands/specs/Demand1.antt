@@ -21,6 +21,9 @@ use Rattle.card.specs.declared.Card.{Card}
 use Rattle.card.specs.Refusals.{cardChecks, stepChecks}
 use Rattle.card.specs.Calls.{After, stepCall, runCall}
 use Rattle.listing.specs.Line.{line, lineCall}
+use Rattle.bus.specs.Refusals.{busChecks}
+use Rattle.bus.specs.Calls.{busCall}
+use Rattle.bus.specs.Rows.{rowsChecks, rowsCall}
 
 -- a number is given exactly when its test holds and none before it does, the call is served exactly when no test holds, and refused it
 -- leaves everything unchanged
@@ -47,3 +50,8 @@ pub record Demand1 : Type 0 where
       → Refuses (lineCall at m out .outcome) (refuseIf (not (isMessage m)) NotMessage ∷ roomFor (line at m) out ∷ []) (lineCall at m out .buffer ≡ out)
   -- the reader is lent nothing that it could change
   pub read : (bs : List ℕ) → Refuses (readCall bs) (refuseIf (not (isReply bs)) NotReply ∷ []) (Unit {0})
+  -- document 02, ticket 6: the run over many cards, and over the rows in which a host lends them
+  pub bus : (cs : List Card) (bench maker values : List ℤ) (ws out : List ℕ)
+      → Refuses (busCall cs bench maker values ws out .outcome) (busChecks cs bench maker values ws) ((busCall cs bench maker values ws out .cards ≡ cs) × (busCall cs bench maker values ws out .values ≡ values) × (busCall cs bench maker values ws out .buffer ≡ out))
+  pub bus-rows : (numbers bench maker values : List ℤ) (ws out : List ℕ)
+      → Refuses (rowsCall numbers bench maker values ws out .outcome) (rowsChecks numbers bench maker values ws) ((rowsCall numbers bench maker values ws out .numbers ≡ numbers) × (rowsCall numbers bench maker values ws out .values ≡ values) × (rowsCall numbers bench maker values ws out .buffer ≡ out))

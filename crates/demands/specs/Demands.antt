@@ -1,4 +1,5 @@
--- The three demands, the neighbours, the causes, both zeros and the bench cases, all together: what the one function of this crate promises.
+-- The three demands, the neighbours, the causes, both zeros, many cards on one pair and the bench cases, all together: what the one function
+-- of this crate promises.
 use mathlib.Core.Path.{_≡_}
 use mathlib.Core.Bool.{true}
 use lib.ListN.{length}
@@ -13,6 +14,7 @@ use Rattle.demands.specs.Demand3.{Demand3}
 use Rattle.demands.specs.Neighbours.{NeighboursIgnored}
 use Rattle.demands.specs.Causes.{Causes}
 use Rattle.demands.specs.Zeros.{Zeros}
+use Rattle.demands.specs.Bus.{Bus}
 
 pub record Demands : Type 0 where
   pub demand-1 : Demand1
@@ -21,6 +23,7 @@ pub record Demands : Type 0 where
   pub neighbours-ignored : NeighboursIgnored
   pub causes : Causes
   pub zeros : Zeros
+  pub bus : Bus
   -- cases a to l, and the second table
   pub bench : every passes benchCases ≡ true
   pub more : every passes moreCases ≡ true

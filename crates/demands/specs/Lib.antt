@@ -6,4 +6,5 @@ pub mod Demand3
 pub mod Neighbours
 pub mod Causes
 pub mod Zeros
+pub mod Bus
 pub mod Demands

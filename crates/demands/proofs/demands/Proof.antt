@@ -3,8 +3,9 @@ use mathlib.Core.Path.{refl}
 use Rattle.demands.proofs.demands.Statement.{statement}
 use Rattle.demands.proofs.demands.Tie as tie
 use Rattle.demands.specs.Demand2.{Demand2}
+use Rattle.demands.specs.Bus.{Bus}
 use Rattle.demands.specs.Demands.{Demands}
-use Rattle.demands.proofs.Cases.{bench, more, zeros-first, zeros-second, twenty-heard, scan, no-replies}
+use Rattle.demands.proofs.Cases.{bench, more, zeros-first, zeros-second, twenty-heard, scan, no-replies, bus-tables}
 use Rattle.demands.proofs.Refusals.{demand-1}
 use Rattle.demands.proofs.Words.{writers-heard, run-steps}
 use Rattle.demands.proofs.Kept.{stays-sound}
@@ -15,6 +16,9 @@ use Rattle.demands.proofs.Recordings.{demand-3}
 use Rattle.demands.proofs.Neighbours.{neighbours-ignored}
 use Rattle.demands.proofs.Causes.{causes}
 use Rattle.demands.proofs.Zeros.{zeros}
+use Rattle.demands.proofs.Pair.{one-pair, bus-demand-3}
+use Rattle.demands.proofs.Alone.{each-alone}
+use Rattle.demands.proofs.Isolated.{isolated}
 
 demand-2 : Demand2
 demand-2 = record {
@@ -27,6 +31,9 @@ demand-2 = record {
   run-steps = run-steps;
 }
 
+bus : Bus
+bus = record { each-alone = each-alone; isolated = isolated; bus-demand-3 = bus-demand-3; one-pair = one-pair; bus-tables = bus-tables }
+
 all-hold : Demands
 all-hold = record {
   demand-1 = demand-1;
@@ -35,6 +42,7 @@ all-hold = record {
   neighbours-ignored = neighbours-ignored;
   causes = causes;
   zeros = zeros;
+  bus = bus;
   bench = bench;
   more = more;
   twenty-heard = twenty-heard;

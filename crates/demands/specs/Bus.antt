@@ -1,0 +1,312 @@
+-- Document 02, ticket 6: "One pair, one recording, many instruments". The claims are about the call `bus::run`, over lists of cards and whole
+-- recordings; `Demand1` has its refusals.
+use mathlib.Core.Path.{_≡_}
+use mathlib.Core.Logic.{_⊎_}
+use mathlib.Core.Bool.{Bool, true, false, cond, _&&_}
+use mathlib.Core.List.{List, [], _∷_, _++_, map}
+use Prim.Native.Nat.{ℕ, zero, suc, _*_, _≤_, _<_}
+use Prim.Native.Char.{code}
+use Prim.Native.String.{String}
+use lib.Dec.{eqb}
+use lib.IntN.{ℤ, pos}
+use lib.ListN.{length, getD, take, drop, replicate}
+use Rattle.refusal.specs.Lists.{every, same}
+use Rattle.refusal.specs.Refusal.{Outcome, refused, gave}
+use Rattle.wire.specs.Text.{chars}
+use Rattle.wire.specs.Word.{withParity, travelling, validWords}
+use Rattle.message.specs.Message.{star}
+use Rattle.hearing.specs.Hearing.{none, added}
+use Rattle.sheet.specs.Sheet.{soundSheet}
+use Rattle.reply.specs.declared.Answer.{Answer}
+use Rattle.reply.specs.Reply.{longestReply}
+use Rattle.reply.specs.Read.{readCall}
+use Rattle.act.specs.declared.Setup.{Setup}
+use Rattle.card.specs.declared.Card.{Card}
+use Rattle.card.specs.Run.{Reaction}
+use Rattle.card.specs.Turn.{Instrument}
+use Rattle.card.specs.Refusals.{soundCard}
+use Rattle.card.specs.Calls.{bytesOf, stepCall, Took, runCall}
+use Rattle.bus.specs.Bus.{joined, instruments, hearsAll}
+use Rattle.bus.specs.Refusals.{soundBus, fitsSheets, soundParts}
+use Rattle.bus.specs.Calls.{After, busCall}
+use Rattle.demands.specs.Bench.{benchRows, benchValues, cardWith, Exchange, _⇒_, equalZ, took}
+use Rattle.demands.specs.Terms.{replies}
+use Rattle.demands.specs.Demand3.{Wrote}
+
+-- numbers 1, 8, 2 and 3 don't hold
+pub record SoundTogether (bench maker : List ℤ) (cs : List Card) (values : List ℤ) : Type 0 where
+  pub cards-sound : every soundCard cs ≡ true
+  pub bus-sound : soundBus cs ≡ true
+  pub sheets-sound : (soundSheet bench && soundSheet maker) ≡ true
+  pub sheets-fit : every (fitsSheets bench maker) cs ≡ true
+  pub values-sound : soundParts bench maker (length cs) values ≡ true
+
+-- the values of the k-th card
+abbrev pub valuesOf : ℕ → List ℤ → List ℤ
+valuesOf k values = take 128 (drop (k * 128) values)
+
+-- all the replies together, whatever the room
+unfoldable pub allReplies : List ℤ → List ℤ → List Instrument → List ℕ → List ℕ
+allReplies bench maker is [] = []
+allReplies bench maker is (w ∷ ws) =
+    let r : Reaction (List Instrument) = hearsAll bench maker is w in
+    r .reply ++ allReplies bench maker (r .state) ws
+
+-- of these cards with these values
+abbrev pub repliesOf : List ℤ → List ℤ → List Card → List ℤ → List ℕ → List ℕ
+repliesOf bench maker cs values ws = allReplies bench maker (instruments cs values) ws
+
+-- ---- whose a reply is
+
+-- one byte before the first of them
+abbrev pub beforeFirst : ℕ → List (List ℕ) → List (List ℕ)
+beforeFirst b [] = (b ∷ []) ∷ []
+beforeFirst b (xs ∷ xss) = (b ∷ xs) ∷ xss
+
+-- bytes as replies: each goes up to a `*`
+unfoldable pub repliesIn : List ℕ → List (List ℕ)
+repliesIn [] = []
+repliesIn (b ∷ bs) = cond (eqb b (withParity star)) ((b ∷ []) ∷ repliesIn bs) (beforeFirst b (repliesIn bs))
+
+-- the reader reads this letter and address in it
+unfoldable pub spokenBy : Setup → List ℕ → Bool
+spokenBy s bs = by (readCall bs)
+  where
+    by : Outcome Answer → Bool
+    by (refused n) = false
+    by (gave a) = eqb (a .letter) (s .letter) && eqb (a .address) (s .address)
+
+unfoldable pub onlyBy : Setup → List (List ℕ) → List (List ℕ)
+onlyBy s [] = []
+onlyBy s (r ∷ rs) = cond (spokenBy s r) (r ∷ onlyBy s rs) (onlyBy s rs)
+
+-- document 02: "each card's replies, picked out of the bench's"
+abbrev pub picked : Setup → List ℕ → List ℕ
+picked s bs = joined (onlyBy s (repliesIn bs))
+
+-- ---- each card for itself
+
+-- the k-th card in the run of all, and in a run of its own over the same words; d stands behind the last card
+module _ (bench maker : List ℤ) (cs : List Card) (values : List ℤ) (ws out own : List ℕ) (k : ℕ) (d : Card) where
+  abbrev its : Card
+  its = getD cs k d
+
+  abbrev itsReplies : List ℕ
+  itsReplies = replies bench maker its (valuesOf k values) ws
+
+  pub record Alone : Type 0 where
+    pub takes-all : runCall its bench maker (valuesOf k values) ws own .outcome ≡ gave (record { words = length ws; bytes = length itsReplies })
+    pub same-replies : picked (its .setup) (take (length (repliesOf bench maker cs values ws)) (busCall cs bench maker values ws out .buffer)) ≡ take (length itsReplies) (runCall its bench maker (valuesOf k values) ws own .buffer)
+    pub same-values : valuesOf k (busCall cs bench maker values ws out .values) ≡ runCall its bench maker (valuesOf k values) ws own .values
+    -- its offer, and the message that it holds open
+    pub same-card : getD (busCall cs bench maker values ws out .cards) k d ≡ runCall its bench maker (valuesOf k values) ws own .card
+
+-- "With room for every reply, each card's replies, picked out of the bench's, are what it alone would have given."
+pub record EachAlone : Type 0 where
+  pub takes-all : (bench maker : List ℤ) (cs : List Card) (values : List ℤ) (ws out : List ℕ) → SoundTogether bench maker cs values → validWords ws ≡ true → length (repliesOf bench maker cs values ws) ≤ length out
+      → busCall cs bench maker values ws out .outcome ≡ gave (record { words = length ws; bytes = length (repliesOf bench maker cs values ws) })
+  pub alone : (bench maker : List ℤ) (cs : List Card) (values : List ℤ) (ws out own : List ℕ) (k : ℕ) (d : Card) → SoundTogether bench maker cs values → validWords ws ≡ true → length (repliesOf bench maker cs values ws) ≤ length out
+      → k < length cs → length (replies bench maker (getD cs k d) (valuesOf k values) ws) ≤ length own → Alone bench maker cs values ws out own k d
+
+-- ---- no card by another's values
+
+-- the same values but for the k-th card's
+abbrev pub ButFor : ℕ → ℕ → List ℤ → List ℤ → Type 0
+ButFor k n values values′ = (j : ℕ) → j < n → (j ≡ k → ⊥) → valuesOf j values ≡ valuesOf j values′
+
+module _ (bench maker : List ℤ) (cs : List Card) (values values′ : List ℤ) (ws out : List ℕ) (k : ℕ) where
+  abbrev one : After
+  one = busCall cs bench maker values ws out
+
+  abbrev other : After
+  other = busCall cs bench maker values′ ws out
+
+  pub record Untouched : Type 0 where
+    pub took : Took
+    pub takes : one .outcome ≡ gave took
+    pub other-takes : other .outcome ≡ gave took
+    -- every card's offer, the k-th too
+    pub same-cards : one .cards ≡ other .cards
+    pub same-values : ButFor k (length cs) (one .values) (other .values)
+    pub same-replies : (j : ℕ) (d : Card) → j < length cs → (j ≡ k → ⊥) → picked (getD cs j d .setup) (take (took .bytes) (one .buffer)) ≡ picked (getD cs j d .setup) (take (took .bytes) (other .buffer))
+
+-- "if one card's values are altered at will, soundly, no other card's replies or values change over any words": with any room, from any start
+pub record Isolated : Type 0 where
+  pub untouched : (bench maker : List ℤ) (cs : List Card) (values values′ : List ℤ) (ws out : List ℕ) (k : ℕ) → SoundTogether bench maker cs values → SoundTogether bench maker cs values′ → validWords ws ≡ true
+      → ButFor k (length cs) values values′ → Untouched bench maker cs values values′ ws out k
+
+-- ---- demand 3
+
+-- two runs, of the words ws and of the words xs, each with room for every reply
+module _ (bench maker : List ℤ) (cs : List Card) (values : List ℤ) (ws xs out out′ : List ℕ) where
+  abbrev drawn : ℕ
+  drawn = length (repliesOf bench maker cs values ws)
+
+  pub record AllAlike : Type 0 where
+    pub takes-all : busCall cs bench maker values ws out .outcome ≡ gave (record { words = length ws; bytes = drawn })
+    pub other-takes-all : busCall cs bench maker values xs out′ .outcome ≡ gave (record { words = length xs; bytes = drawn })
+    pub same-replies : take drawn (busCall cs bench maker values ws out .buffer) ≡ take drawn (busCall cs bench maker values xs out′ .buffer)
+    pub same-values : busCall cs bench maker values ws out .values ≡ busCall cs bench maker values xs out′ .values
+    pub same-offers : map (λ (c : Card). c .offer) (busCall cs bench maker values ws out .cards) ≡ map (λ (c : Card). c .offer) (busCall cs bench maker values xs out′ .cards)
+
+-- "Demand 3 then reads over the whole bench, for the values and offer of every card, wherever number 8 doesn't hold."
+pub record BusDemand3 : Type 0 where
+  pub played-alike : (ws out xs : List ℕ) → Wrote ws out xs → (bench maker : List ℤ) (cs : List Card) (values : List ℤ) (a b : List ℕ) → SoundTogether bench maker cs values → every (λ (c : Card). eqb (c .pending .len) 0) cs ≡ true
+      → length (repliesOf bench maker cs values ws) ≤ length a → length (repliesOf bench maker cs values xs) ≤ length b → AllAlike bench maker cs values ws xs a b
+
+-- ---- one pair
+
+pub record OnePair : Type 0 where
+  -- "at most one replies": of the single word's call at each card
+  pub one-replies : (bench maker : List ℤ) (cs : List Card) (values : List ℤ) (w : ℕ) (out : List ℕ) (j k : ℕ) (d : Card) → SoundTogether bench maker cs values → w ≤ 256 → longestReply ≤ length out
+      → j < length cs → k < length cs → (j ≡ k → ⊥)
+      → (bytesOf (stepCall (getD cs j d) bench maker (valuesOf j values) w out .outcome) ≡ gave 0) ⊎ (bytesOf (stepCall (getD cs k d) bench maker (valuesOf k values) w out .outcome) ≡ gave 0)
+  -- what a run leaves is served again: "all hold the same open message"
+  pub stays-sound : (bench maker : List ℤ) (cs : List Card) (values : List ℤ) (ws out : List ℕ) → SoundTogether bench maker cs values → validWords ws ≡ true
+      → SoundTogether bench maker (busCall cs bench maker values ws out .cards) (busCall cs bench maker values ws out .values)
+  pub served : (bench maker : List ℤ) (cs : List Card) (values : List ℤ) (ws out : List ℕ) → SoundTogether bench maker cs values → validWords ws ≡ true → (t : Took) × (busCall cs bench maker values ws out .outcome ≡ gave t)
+  -- no card at all: every word taken, nothing written
+  pub no-card : (bench maker : List ℤ) (ws out : List ℕ) → (soundSheet bench && soundSheet maker) ≡ true → validWords ws ≡ true
+      → busCall [] bench maker [] ws out ≡ record { cards = []; outcome = gave (record { words = length ws; bytes = 0 }); values = []; buffer = out }
+
+-- ---- tables
+
+-- a card at another letter and address
+unfoldable pub standsAt : ℕ → ℕ → Card → Card
+standsAt l a c =
+    record { setup = record { letter = l; address = a; count = c .setup .count; scan = c .setup .scan; revision = c .setup .revision }; pending = c .pending; offer = c .offer }
+
+-- the card of the bench cases, `L7`, and beside it `R7` and `L8`
+unfoldable pub threeCards : List Card
+threeCards = cardWith 1 "" ∷ standsAt (code "R") 7 (cardWith 1 "") ∷ standsAt (code "L") 8 (cardWith 1 "") ∷ []
+
+-- each with the values of the bench cases, and these of m
+unfoldable pub valuesWith : List ℤ → List ℤ
+valuesWith ms = joined (map benchValues ms)
+
+-- the run took so many words, and wrote this answer
+unfoldable pub takes : After → ℕ → List ℕ → Bool
+takes a words answer = took (a .outcome) words (length answer) && same eqb (take (length answer) (a .buffer)) answer
+
+-- each exchange is a run over all cards, with room for three replies; and the last leaves these values
+unfoldable pub allAnswer : List Card → List ℤ → List Exchange → List ℤ → Bool
+allAnswer cs values [] last = same equalZ values last
+allAnswer cs values (x ∷ xs) last =
+    let sent : List ℕ = travelling (chars (x .sent)) in
+    let a : After = busCall cs [] benchRows values sent (replicate (3 * longestReply) 0) in
+    takes a (length sent) (travelling (chars (x .answered))) && allAnswer (a .cards) (a .values) xs last
+
+-- a first run with room for so many bytes, of which so many words are taken; then exchanges, which meet the cards as that run left them. The
+-- value of m is 20 at each card before, and these after.
+pub record BusCase : Type 0 where
+  pub sent : String
+  pub room : ℕ
+  pub taken : ℕ
+  pub answered : String
+  pub exchanges : List Exchange
+  pub last : List ℤ
+
+unfoldable pub passesBus : BusCase → Bool
+passesBus x =
+    let a : After = busCall threeCards [] benchRows (valuesWith (pos 20 ∷ pos 20 ∷ pos 20 ∷ [])) (travelling (chars (x .sent))) (replicate (x .room) 0) in
+    takes a (x .taken) (travelling (chars (x .answered))) && allAnswer (a .cards) (a .values) (x .exchanges) (valuesWith (x .last))
+
+unfoldable pub busCase : String → ℕ → ℕ → String → List Exchange → List ℤ → BusCase
+busCase sent room taken answered xs last = record { sent = sent; room = room; taken = taken; answered = answered; exchanges = xs; last = last }
+
+-- an offer at each, and each stored in another order; all three queried; cards that aren't there; and a word whose reply doesn't fit, which no
+-- card takes: it is taken later, and before it the offer isn't there, nor the value stored
+unfoldable pub busCases : List BusCase
+unfolding busCase _⇒_
+busCases =
+    busCase "L7m#00301*R7m#00401*L8m#00501*" 30 30 "L7m00301I*R7m00401I*L8m00501I*" ("R7mI*" ⇒ "R7m00401A*" ∷ "L8mI*" ⇒ "L8m00501A*" ∷ "L7mI*" ⇒ "L7m00301A*" ∷ []) (pos 30 ∷ pos 40 ∷ pos 50 ∷ [])
+    ∷ busCase "L7m#00301*R7m#00401*L8m#00501*" 30 30 "L7m00301I*R7m00401I*L8m00501I*" ("R7m?*" ⇒ "R7m00201A*" ∷ "R7mI*L8mI*L7mI*" ⇒ "L8m00501A*L7m00301A*" ∷ []) (pos 30 ∷ pos 20 ∷ pos 50 ∷ [])
+    ∷ busCase "L7m+*R7m-*" 20 10 "L7m00251A*R7m00151A*" ("L7m?*R7m?*L8m?*" ⇒ "L7m00251A*R7m00151A*L8m00201A*" ∷ []) (pos 25 ∷ pos 15 ∷ pos 20 ∷ [])
+    ∷ busCase "R8m#00301*R8mI*L9??*" 0 20 "" ("L8??*" ⇒ "L8?A*" ∷ []) (pos 20 ∷ pos 20 ∷ pos 20 ∷ [])
+    ∷ busCase "L7??*R7??*L8??*" 14 14 "L7?A*R7?A*" ("*" ⇒ "L8?A*" ∷ []) (pos 20 ∷ pos 20 ∷ pos 20 ∷ [])
+    ∷ busCase "L7m#00301*R7m#00401*" 19 19 "L7m00301I*" ("*" ⇒ "R7m00401I*" ∷ "R7mI*" ⇒ "R7m00401A*" ∷ "L7mI*" ⇒ "L7m00301A*" ∷ []) (pos 30 ∷ pos 40 ∷ pos 20 ∷ [])
+    ∷ busCase "L7m#00301*R7m#00401*" 19 19 "L7m00301I*" ("//R7mI*" ⇒ "" ∷ "L7mI*" ⇒ "L7m00301A*" ∷ []) (pos 30 ∷ pos 20 ∷ pos 20 ∷ [])
+    ∷ busCase "L7m+*R7m+*" 19 9 "L7m00251A*" [] (pos 25 ∷ pos 20 ∷ pos 20 ∷ [])
+    ∷ []
+
+-- of what the run writes, each of two cards has its own
+pub record PickCase : Type 0 where
+  pub sent : String
+  pub answered : String
+  pub first : String
+  pub second : String
+
+unfoldable pub picks : PickCase → Bool
+picks x =
+    let values : List ℤ = valuesWith (pos 20 ∷ pos 20 ∷ []) in
+    let answer : List ℕ = travelling (chars (x .answered)) in
+    let sent : List ℕ = travelling (chars (x .sent)) in
+    let a : After = busCall (take 2 threeCards) [] benchRows values sent (replicate (3 * longestReply) 0) in
+    let own : ℕ → List ℕ = λ k. picked (getD threeCards k (cardWith 1 "") .setup) (take (length answer) (a .buffer)) in
+    takes a (length sent) answer && same eqb (own 0) (travelling (chars (x .first))) && same eqb (own 1) (travelling (chars (x .second)))
+
+unfoldable pub pickCases : List PickCase
+pickCases =
+    record { sent = "L7??*R7??*"; answered = "L7?A*R7?A*"; first = "L7?A*"; second = "R7?A*" }
+    ∷ record { sent = "R7m?*L7M?*R7m+*"; answered = "R7m00201A*L7M02311A*R7m00251A*"; first = "L7M02311A*"; second = "R7m00201A*R7m00251A*" }
+    ∷ []
+
+-- ---- number 8
+
+-- the first n addresses of a letter, from the last on
+unfoldable pub cardsUpTo : ℕ → ℕ → List Card
+cardsUpTo l zero = []
+cardsUpTo l (suc n) = standsAt l (suc n) (cardWith 1 "") ∷ cardsUpTo l n
+
+-- in the middle of a message
+unfoldable pub halfOpen : Card → Card
+halfOpen c = record { setup = c .setup; pending = added none (code "L"); offer = c .offer }
+
+-- the numbers that these cards get, with the bench's rows and with an unsound sheet; 0 where the call is served
+pub record BusRefusal : Type 0 where
+  pub cards : List Card
+  pub number : ℕ
+  pub unsound-sheet : ℕ
+
+unfoldable pub refusal : List Card → ℕ → ℕ → BusRefusal
+refusal cs n k = record { cards = cs; number = n; unsound-sheet = k }
+
+-- the number, 0 where it is served
+unfoldable pub numberGiven : Outcome Took → ℕ
+numberGiven (refused n) = n
+numberGiven (gave t) = 0
+
+unfoldable pub givesBoth : BusRefusal → Bool
+givesBoth x =
+    let values : List ℤ = valuesWith (map (λ (c : Card). pos 20) (x .cards)) in
+    eqb (numberGiven (busCall (x .cards) [] benchRows values [] [] .outcome)) (x .number) && eqb (numberGiven (busCall (x .cards) [] (pos 0 ∷ []) values [] [] .outcome)) (x .unsound-sheet)
+
+-- two cards alike, of another revision and with a scan too; more than 32; open messages that differ. It "comes after 1 but before sheets", and
+-- 32 cards, and cards that all hold the same open message, aren't refused.
+unfoldable pub busRefusals : List BusRefusal
+unfolding refusal
+busRefusals =
+    refusal threeCards 0 2
+    ∷ refusal (map halfOpen threeCards) 0 2
+    ∷ refusal (cardsUpTo (code "L") 32) 0 2
+    ∷ refusal (cardWith 1 "" ∷ threeCards) 8 8
+    ∷ refusal (cardWith 1 "" ∷ standsAt (code "R") 7 (cardWith 1 "") ∷ cardWith 2 "MJmM" ∷ []) 8 8
+    ∷ refusal (cardsUpTo (code "R") 1 ++ cardsUpTo (code "L") 32) 8 8
+    ∷ refusal (cardWith 1 "" ∷ halfOpen (standsAt (code "R") 7 (cardWith 1 "")) ∷ []) 8 8
+    ∷ refusal (cardWith 1 "" ∷ cardWith 3 "" ∷ []) 1 1
+    ∷ refusal (cardWith 1 "" ∷ cardWith 1 "" ∷ standsAt (code "L") 0 (cardWith 1 "") ∷ []) 1 1
+    ∷ []
+
+pub record BusTables : Type 0 where
+  pub answered : every passesBus busCases ≡ true
+  pub own-replies : every picks pickCases ≡ true
+  pub refused : every givesBoth busRefusals ≡ true
+
+-- ---- all of them
+
+pub record Bus : Type 0 where
+  pub each-alone : EachAlone
+  pub isolated : Isolated
+  pub bus-demand-3 : BusDemand3
+  pub one-pair : OnePair
+  pub bus-tables : BusTables
