@@ -1,4 +1,5 @@
 // The cards of the cases: the sheets, the values at the start, the letter, the scan and the revision of each.
+use crate::pair::together;
 use crate::player::Outcome;
 use crate::player::both;
 use crate::reader::address_of;
@@ -85,6 +86,22 @@ fn on_bench(setup: Setup, line: &[u8]) -> Outcome {
     both(setup, &sheet, &none, bench_values(), line)
 }
 
+fn at_seven(setup: Setup) -> Setup {
+    let mut moved = setup;
+    moved.address = 7;
+    moved
+}
+
+// B and F at address 7, and E at the address in the line, on one pair.
+fn on_pair(line: &[u8]) -> Outcome {
+    let sheet = sheet_of(BENCH);
+    let none = [0i32; 0];
+    let first = at_seven(setup_of(line, b'L', 0, NO_SCAN));
+    let second = at_seven(setup_of(line, b'R', 4, FOUR));
+    let third = setup_of(line, b'L', 5, FIVE);
+    together(first, second, third, &sheet, &none, bench_values(), line)
+}
+
 fn on_table(line: &[u8]) -> Outcome {
     let sheet = sheet_of(TABLE);
     let none = [0i32; 0];
@@ -134,6 +151,7 @@ pub(crate) fn play(line: &[u8]) -> Outcome {
         b'B' => on_bench(setup_of(line, b'L', 0, NO_SCAN), line),
         b'E' => on_bench(setup_of(line, b'L', 5, FIVE), line),
         b'F' => on_bench(setup_of(line, b'R', 4, FOUR), line),
+        b'M' => on_pair(line),
         b'C' => on_controller(
             setup_of(line, b'L', 5, models::dcp100_controller_scan()),
             line,

@@ -1,5 +1,6 @@
 // The bench cases of document 01, cases of the requests and the worked examples of the manuals, played through the public calls. Each
-// case is played twice from the start: `card::run` takes each message at once, and `card::step` takes it word by word.
+// case is played twice from the start: `card::run` takes each message at once, and `card::step` takes it word by word. Where many cards
+// share a pair, `bus::run` does both.
 //
 // Standard input has a line for each case, in fields with one space between them:
 //
@@ -15,14 +16,17 @@
 //     P  DCP 100 programmer, letter `R`; no scan
 //     U  UDI 1500; scan `M` `A` `B` `T` `L`
 //     T  rows `a` to `d` for Table 5-1; scan `a` `b` `c` `d`
+//     M  three cards on one pair: B and F, both at address 7, and E
 //
-// In small letters, as `b` or `c33`, it is the same card of revision 2; otherwise its revision is 1. The letter is `L` where none is named;
-// no message open and no offer.
-// CHANGE is one initial value that the case has otherwise, as `m=1000`, in units of the last decimal; `-` where there is none.
+// The address behind M is that of its E, so `M` alone has two cards alike. In small letters, as `b` or `c33`, it is the same card of
+// revision 2; otherwise its revision is 1. The letter is `L` where none is named; no message open and no offer.
+// CHANGE is one initial value that the case has otherwise, as `m=1000`, in units of the last decimal; `-` where there is none. Each card
+// of M has it.
 // SENT is a message, each character in good parity, but for `{256}`, a silence; `{M!}`, an `M` in bad parity; `{sp}`, a space.
 // ANSWER is what the card says to all of it, and `-` is silence. It may end in the cause that the last word of SENT gives word by word, as
 // `L7X00000N*:1` or `-:10.3`: `:` and its code, and for a message that isn't well formed `.` and the position in it. Without `:` no cause
-// is compared; a run has none. A case has at most `player::MESSAGES` messages.
+// is compared; a run has none, and so M has none. On M it may be a refusal, as `!8`: `!` and its number. `{?}` is a word that is refused.
+// A case has at most `player::MESSAGES` messages.
 //
 // Standard output has a line for each case, `NAME ok` or `NAME differs at K`, K the first message whose answer is another (0 where
 // the line is no case), and then how many cases there are and how many differ. The empty line is no case.
@@ -31,6 +35,7 @@ use libc::STDOUT_FILENO;
 use player::Outcome;
 
 mod cards;
+mod pair;
 mod player;
 mod reader;
 

@@ -1,4 +1,5 @@
 // A case on a card: its messages at once and word by word, and each answer compared.
+ghost use Prim.Native.Nat.{_≤_};
 use crate::reader::change;
 use crate::reader::field;
 use crate::reader::spells;
@@ -14,12 +15,12 @@ use card::StepAnswer;
 use hearing::Pending;
 
 // The words of a message, and the bytes of the replies to it: two of the longest, since a word is taken only with room for one.
-const WORDS: usize = 64;
+pub(crate) const WORDS: usize = 64;
 
-const REPLIES: usize = 2 * reply::LONGEST_REPLY;
+pub(crate) const REPLIES: usize = 2 * reply::LONGEST_REPLY;
 
 // The most messages that a case has.
-const MESSAGES: usize = 8;
+pub(crate) const MESSAGES: usize = 12;
 
 pub(crate) enum Outcome {
     Same,
@@ -56,7 +57,7 @@ fn starts(bytes: &[u8], characters: &[u8]) -> bool {
 }
 
 // Whether the `said` first bytes are what the answer has before its cause.
-fn is_answer(bytes: &[u8], said: usize, answer: &[u8]) -> bool {
+pub(crate) fn is_answer(bytes: &[u8], said: usize, answer: &[u8]) -> bool {
     let end = stop(answer, 0, b':');
     if end == 0 {
         return false;
@@ -228,6 +229,19 @@ fn message<'a>(
     }
 }
 
+// The outcome where so many messages were answered as expected: there is one, and none is left.
+pub(crate) fn ended(line: &[u8], k: usize) -> Outcome
+    requires { ⌜ k ≤ 12 ⌝ }
+{
+    if k == 0 {
+        return Outcome::Differs(0);
+    }
+    if start(line, 3 + 2 * k) < line.len() {
+        return Outcome::Differs(k + 1);
+    }
+    Outcome::Same
+}
+
 // The messages of a case, one after the other, to the end of the line.
 fn messages<'a>(
     at_once: bool,
@@ -252,13 +266,7 @@ fn messages<'a>(
         held = played.card;
         k += 1;
     }
-    if k == 0 {
-        return Outcome::Differs(0);
-    }
-    if start(line, 3 + 2 * k) < line.len() {
-        return Outcome::Differs(k + 1);
-    }
-    Outcome::Same
+    ended(line, k)
 }
 
 fn fresh(setup: Setup) -> Card {

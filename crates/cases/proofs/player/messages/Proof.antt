@@ -7,15 +7,13 @@ use Rattle.cases.proofs.player.messages.Statement.{statement}
 use Rattle.cases.proofs.player.messages.Tie as tie
 
 abbrev Inv-loop : tie.InvT-loop
-Inv-loop at-once bench maker values₀ line held₀ k₀ values held k = (k ≤ 8) × (length values ≡ length values₀)
+Inv-loop at-once bench maker values₀ line held₀ k₀ values held k = (k ≤ 12) × (length values ≡ length values₀)
 
 abbrev μ-loop : tie.MeasureT-loop
-μ-loop at-once bench maker values₀ line held₀ k₀ values held k = 8 - k
+μ-loop at-once bench maker values₀ line held₀ k₀ values held k = 12 - k
 
 pub messages-spec : {M : Type 1} → statement M
 messages-spec = tie.close (tie.spec
     Inv-loop μ-loop (λ c. search needs) (λ c. search needs) (λ c. search needs) (λ c κs. search needs) (λ c. search needs)
     (λ c. search needs) (λ c κs. search needs) (λ c κs. search needs) (λ c. search needs) (λ c. search needs) (λ c. search needs)
-    (λ c. search needs) (λ c. search needs) (λ c. search needs) (λ c. search needs) (λ c. search needs) (λ c. search needs)
-    (λ c. search needs) (λ c κs. search needs) (λ c. search needs) (λ c. search needs) (λ c. search needs) (λ c. search needs)
-    (λ c. search needs))
+    (λ c. search needs) (λ c. search needs) (λ c. search needs) (λ c κs. search needs) (λ c. search needs) (λ c. search needs))
