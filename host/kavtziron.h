@@ -1,5 +1,5 @@
 /*
- * The seven functions of the proved archive (libabi.a), for C.
+ * The eight functions of the proved archive (libabi.a), for C.
  *
  * A slice passes as a pointer and then a length, counted in its own numbers. A pointer must be
  * valid for that many numbers, aligned and not null, even with length 0; what can be written must
@@ -14,6 +14,7 @@
  *   5  room too short
  *   6  the bytes are not one whole reply
  *   7  what is asked for isn't a heard message
+ *   8  cards that can't share one pair: two alike, more than 32, or open messages that differ
  *
  * A refused call changes nothing lent. Nothing behind the last number written changes.
  *
@@ -44,6 +45,7 @@ extern "C" {
 #endif
 
 #define KAV_CARD 23   /* numbers of a card */
+#define KAV_CARDS 32  /* no bench has more cards */
 #define KAV_VALUES 128 /* values */
 #define KAV_ROW 6     /* numbers of a row */
 #define KAV_ANSWER 15 /* numbers of an answer */
@@ -101,6 +103,27 @@ int64_t kav_run(int32_t *card, size_t card_length,
                 const uint16_t *words, size_t words_length,
                 uint8_t *out, size_t out_length,
                 uint64_t *counts, size_t counts_length);
+
+/*
+ * The same for several cards on one pair, none to 32, with one pair of sheets for all: cards holds their
+ * rows back to back, values 128 numbers for each card in the same order. Every word goes to every card,
+ * and at most one replies. Where its reply no longer fits in out, no card takes the word; that isn't a
+ * refusal. Gives 0, with counts[0] words taken and counts[1] bytes written, whoever wrote them: letter and
+ * address of a reply say who spoke. Every card's row is written back as by kav_run. With no card every
+ * word is taken and nothing written.
+ * Refused with, in this order: 1 where the length of cards isn't that of whole rows, or a card by itself is
+ * unsound, those behind the 32nd too; 8 where two cards have the same letter and the same address, whatever
+ * else they have, where there are more than 32, or where not all have the same message open; 2; 1 (offers
+ * and scans of all cards); 3 where the values are not 128 for each card, or a card's break the rules; 4; and
+ * 5 where counts is shorter than two.
+ */
+int64_t kav_bus_run(int32_t *cards, size_t cards_length,
+                    const int32_t *bench, size_t bench_length,
+                    const int32_t *maker, size_t maker_length,
+                    int32_t *values, size_t values_length,
+                    const uint16_t *words, size_t words_length,
+                    uint8_t *out, size_t out_length,
+                    uint64_t *counts, size_t counts_length);
 
 /*
  * Writes the messages heard in a recording in their normal form, one byte to a word. Gives the

@@ -1,4 +1,4 @@
-//! The seven C functions of the archive, and safe wrappers over slices.
+//! The eight C functions of the archive, and safe wrappers over slices.
 //!
 //! A slice passes as a pointer and then a length, in the order of the parameters; numbers pass as
 //! themselves. Each wrapper has the parameters and the result of its namesake in
@@ -26,6 +26,23 @@ pub mod raw {
         pub fn kav_run(
             card: *mut i32,
             card_length: usize,
+            bench: *const i32,
+            bench_length: usize,
+            maker: *const i32,
+            maker_length: usize,
+            values: *mut i32,
+            values_length: usize,
+            words: *const u16,
+            words_length: usize,
+            out: *mut u8,
+            out_length: usize,
+            counts: *mut u64,
+            counts_length: usize,
+        ) -> i64;
+
+        pub fn kav_bus_run(
+            cards: *mut i32,
+            cards_length: usize,
             bench: *const i32,
             bench_length: usize,
             maker: *const i32,
@@ -138,6 +155,39 @@ pub fn run(
         raw::kav_run(
             card.as_mut_ptr(),
             card.len(),
+            bench.as_ptr(),
+            bench.len(),
+            maker.as_ptr(),
+            maker.len(),
+            values.as_mut_ptr(),
+            values.len(),
+            words.as_ptr(),
+            words.len(),
+            out.as_mut_ptr(),
+            out.len(),
+            counts.as_mut_ptr(),
+            counts.len(),
+        )
+    }
+}
+
+/// Many words to several cards, their rows back to back, with 128 values for each. Minus the number, or 0 with
+/// `counts[0]` words taken and `counts[1]` bytes written.
+#[inline]
+pub fn bus_run(
+    cards: &mut [i32],
+    bench: &[i32],
+    maker: &[i32],
+    values: &mut [i32],
+    words: &[u16],
+    out: &mut [u8],
+    counts: &mut [u64],
+) -> i64 {
+    // SAFETY: as above.
+    unsafe {
+        raw::kav_bus_run(
+            cards.as_mut_ptr(),
+            cards.len(),
             bench.as_ptr(),
             bench.len(),
             maker.as_ptr(),

@@ -7,7 +7,7 @@ use super::card::{self, Card, Offer};
 use super::hearing::{Open, MOST};
 use super::message::{self, Data, Kind, Message};
 use super::scan::{Scan, MOST_NAMED};
-use super::{listing, normal, reply, sheet, Refusal};
+use super::{bus, listing, normal, reply, sheet, Refusal};
 
 /// Letter, address, count of open characters, ten characters, offer or none, its identifier, its
 /// value, count of the scan's identifiers, five identifiers, revision.
@@ -145,6 +145,37 @@ pub fn run(
         }
         Err(refusal) => refused(refusal),
     }
+}
+
+/// Cards' rows back to back, and 128 values for each. Minus the number, or 0 with `counts[0]` words taken and
+/// `counts[1]` bytes written. Counts shorter than two are number 5, after all the others.
+pub fn bus_run(
+    cards: &mut [i32],
+    bench: &[i32],
+    maker: &[i32],
+    values: &mut [i32],
+    words: &[u16],
+    out: &mut [u8],
+    counts: &mut [u64],
+) -> i64 {
+    let (rows, rest) = cards.as_chunks_mut::<CARD>();
+    let all: Option<Vec<Card>> = rows.iter().map(|row| card_of(row)).collect();
+    let Some(mut all) = all.filter(|_| rest.is_empty()) else {
+        return refused(Refusal::Card);
+    };
+    // As in `run`, what comes before number 5 is found in copies.
+    let mut copies = if counts.len() < 2 { values.to_vec() } else { Vec::new() };
+    let (lent, room) = if counts.len() < 2 { (&mut copies[..], &mut [][..]) } else { (values, out) };
+    let ran = match bus::run(&mut all, bench, maker, lent, words, room) {
+        Ok(ran) => ran,
+        Err(refusal) => return refused(refusal),
+    };
+    let [taken, written, ..] = counts else {
+        return refused(Refusal::Room);
+    };
+    (*taken, *written) = (ran.taken as u64, ran.written as u64);
+    rows.iter_mut().zip(&all).for_each(|(row, card)| put_back(row, card));
+    0
 }
 
 /// Minus the number, or the count of words written.

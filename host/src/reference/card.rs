@@ -78,7 +78,7 @@ impl Card {
     }
 
     /// What a Type 3 could leave: a multiple of the step, in range, of a row that can be written.
-    fn has_sound_offer(&self, rows: &Rows) -> bool {
+    pub(super) fn has_sound_offer(&self, rows: &Rows) -> bool {
         self.offer.is_none_or(|offer| {
             rows.get(offer.identifier).is_some_and(|row| row.can_be_written() && row.admits(offer.value))
         })
@@ -174,6 +174,22 @@ impl Card {
             Kind::Query if !self.scan.is_none() => Some(Reply::Scan),
             Kind::Store => None,
             _ => Some(Reply::Value { outcome: b'N', data: Data::ZERO }),
+        }
+    }
+
+    /// Takes one word of a run. Gives the bytes written, or `None`, with nothing changed, where its reply
+    /// doesn't fit.
+    #[inline]
+    pub(super) fn take(
+        &mut self,
+        word: u16,
+        rows: &Rows,
+        values: &mut [i32; VALUES],
+        out: &mut [u8],
+    ) -> Option<usize> {
+        match self.open.to_close(&[word]) {
+            1 => Some(0),
+            _ => self.close(rows, values, out),
         }
     }
 

@@ -1,9 +1,10 @@
-//! Document 01 in plain Rust, and of document 02 requests 1, 2, 4 and 5.
+//! Document 01 in plain Rust, and of document 02 requests 1, 2, 4, 5 and 6.
 //!
-//! The typed calls are [`card::step`], [`card::run`], [`normal::normal_form`], [`message::write`],
+//! The typed calls are [`card::step`], [`card::run`], [`bus::run`], [`normal::normal_form`], [`message::write`],
 //! [`reply::read`], [`listing::line`] and [`sheet::lookup`]; [`calls`] has the same over numbers and
 //! slices of numbers, as the C boundary has them.
 
+pub mod bus;
 pub mod calls;
 pub mod card;
 pub mod cause;
@@ -29,6 +30,7 @@ pub enum Refusal {
     Room = 5,
     Reply = 6,
     Message = 7,
+    Cards = 8,
 }
 
 impl Refusal {

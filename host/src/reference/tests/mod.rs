@@ -2,6 +2,7 @@
 //! a hasty reader goes wrong, and the listing byte for byte.
 //! The files beside this one hold the tests; here is what they have in common.
 
+mod bus;
 mod card;
 mod cause;
 mod hearing;
