@@ -48,6 +48,30 @@ pub fn wrong_revision(rng: &mut Rng) -> i32 {
     rng.pick(&[0, 3, -1, -2, 4, 255, 256, 257, 258, 65_537, i32::MIN, i32::MAX])
 }
 
+/// Makes one of the 23 numbers of the world's card unsound: 0 to 12 and 22 before the sheets are looked at, 13 to 21
+/// behind them. For 17 to 21 the card names five identifiers.
+pub fn break_number(rng: &mut Rng, world: &mut World, place: usize) {
+    if matches!(place, 17..=21) {
+        world.scan(rng, 5);
+        world.card[16] = 5;
+    }
+    let now = world.card[place];
+    world.card[place] = match place {
+        0 => rng.pick(&[0, 75, 77, 0xCC, 0xD2, 76 + 256, -76, i32::MIN, i32::MAX]),
+        1 => rng.pick(&[0, 100, -1, -7, 256, 263, 355, 65_543, i32::MIN, i32::MAX]),
+        2 => rng.pick(&[-1, 11, 12, 128, 255, 256, 266, i32::MIN, i32::MAX]),
+        // Neither a letter nor what stands behind the last character.
+        3 => rng.pick(&[42, 75, 0xCC, 76 + 256, -1, i32::MIN, i32::MAX]),
+        4..=12 => rng.pick(&[42, 128, 0xAA, 255, 256, -1, 42 + 256, i32::MIN, i32::MAX]),
+        13 => rng.pick(&[1 - now, 2, -1, 256, 257, i32::MIN, i32::MAX]),
+        14 => rng.pick(&[-1, 42, 63, 127, 256, 300, 256 + now, i32::MIN, i32::MAX]),
+        15 => rng.pick(&[-10_000, 10_000, 65_536, i32::MIN, i32::MAX]),
+        16 => rng.pick(&[1, 2, 3, 6, 7, 255, -1, -4, 256, 260, 261, i32::MIN, i32::MAX]),
+        22 => wrong_revision(rng),
+        _ => rng.pick(&[-1, 0, 42, 63, 93, 127, 256, 300, i32::MIN, i32::MAX]),
+    };
+}
+
 /// Three numbers that are no offer, or one for identifier 0, near those of a sound one.
 fn no_offer(rng: &mut Rng, identifier: i32, value: i32) -> [i32; 3] {
     match rng.below(5) {
@@ -182,8 +206,13 @@ pub fn break_values(rng: &mut Rng, world: &mut World) {
         world.values.resize(length, 0);
         return;
     }
-    let row = rng.pick(&world.rows);
-    let value = &mut world.values[row[0] as usize];
+    break_value(rng, &world.rows, &mut world.values);
+}
+
+/// Makes one of these values break the rules of these rows, of which there is one or more.
+pub fn break_value(rng: &mut Rng, rows: &[Row], values: &mut [i32]) {
+    let row = rng.pick(rows);
+    let value = &mut values[row[0] as usize];
     *value = match rng.below(3) {
         0 => rng.pick(&[row[5] + row[3], row[5] + 1, i32::MAX]),
         1 if row[3] > 1 && row[4] < row[5] => row[4] + rng.within(1, row[3] - 1),

@@ -2,15 +2,17 @@
 //! sound by its making.
 
 mod broken;
+mod bus;
 mod message;
 mod recording;
 mod rng;
 mod world;
 
 pub use broken::{
-    add_scan_row, break_card, break_offer, break_scan, break_sheet, break_values, lengthen_card,
-    wrong_revision, wrong_word,
+    add_scan_row, break_card, break_number, break_offer, break_scan, break_sheet, break_value, break_values,
+    lengthen_card, wrong_revision, wrong_word,
 };
+pub use bus::{Bus, Unfit, UNFIT};
 pub use message::{
     message, neighbours_head, neighbours_message, on_line, reply, scan_message, scan_reply, words_of,
 };

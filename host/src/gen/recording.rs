@@ -96,16 +96,17 @@ impl Tape<'_> {
             self.put(rng, &[head, b"I*"].concat());
         }
     }
+}
 
-    fn put_noise(&mut self, rng: &mut Rng) {
-        for _ in 0..rng.below(6) {
-            self.words.push(match rng.below(4) {
-                0 => 256,
-                1 => u16::from(on_line(other(rng))),
-                2 => u16::from(on_line(rng.pick(b"LR*"))),
-                _ => rng.next() as u16 & 0xFF,
-            });
-        }
+/// Appends up to five words that are no message.
+pub(super) fn put_noise(rng: &mut Rng, words: &mut Vec<u16>) {
+    for _ in 0..rng.below(6) {
+        words.push(match rng.below(4) {
+            0 => 256,
+            1 => u16::from(on_line(other(rng))),
+            2 => u16::from(on_line(rng.pick(b"LR*"))),
+            _ => rng.next() as u16 & 0xFF,
+        });
     }
 }
 
@@ -121,7 +122,7 @@ pub fn recording(rng: &mut Rng, world: &World, length: usize, mixture: Mixture) 
     }
     while tape.words.len() < length {
         if rng.percent(mixture.noise) {
-            tape.put_noise(rng);
+            put_noise(rng, &mut tape.words);
         }
         tape.put_others(rng, identifier);
         text.clear();

@@ -66,6 +66,15 @@ pub fn value(rng: &mut Rng, row: &Row) -> i32 {
     }
 }
 
+/// Values that the rows admit, anything in the other places.
+pub(super) fn values(rng: &mut Rng, rows: &[Row]) -> Vec<i32> {
+    let mut values: Vec<i32> = (0..128).map(|_| rng.wild()).collect();
+    for row in rows {
+        values[row[0] as usize] = value(rng, row);
+    }
+    values
+}
+
 /// Gives `]`'s row, where there is one, to an identifier that the sheet lacks.
 fn free_scan(sheet: &mut Vec<i32>) {
     let mut rows: Vec<Row> = rows_of(sheet).collect();
@@ -111,10 +120,7 @@ impl World {
         free_scan(&mut bench);
         free_scan(&mut maker);
         let rows = holding(&bench, &maker);
-        let mut values: Vec<i32> = (0..128).map(|_| rng.wild()).collect();
-        for row in &rows {
-            values[row[0] as usize] = value(rng, row);
-        }
+        let values = values(rng, &rows);
         let mut card = vec![0; 23];
         card[22] = 1;
         card[0] = i32::from(rng.pick(b"LR"));

@@ -1,18 +1,23 @@
 //! One case with all that is lent: how it is printed, and how that line is read back.
 
-use kavtziron_host::gen::World;
+use kavtziron_host::gen::{Bus, World};
 use std::fmt::{Debug, Display, Write as _};
 
 /// One call with all that is lent. The rooms are filled with a pattern; `counts` and `cause` are lengths.
 /// `Ignored` is several calls: a recording, and what the card hears in it that is for itself, with room for
 /// every reply. `Zeros` is several too: a recording and the same with each minus zero made zero, at both
-/// revisions.
+/// revisions. In `Bus`, `Single` and `Alone` the world's card is the rows of several back to back, and its values are
+/// theirs. `Single` has one card and compares both calls that run words. `Alone` plays the words on the bench and at
+/// each card by itself, and with other values of one card.
 #[derive(Clone, Debug, PartialEq)]
 pub(crate) enum Case {
     Step { world: Lent, word: u16, room: usize, cause: usize },
     Run { world: Lent, words: Vec<u16>, room: usize, counts: usize },
     Ignored { world: Lent, words: Vec<u16> },
     Zeros { world: Lent, words: Vec<u16> },
+    Bus { world: Lent, words: Vec<u16>, room: usize, counts: usize },
+    Single { world: Lent, words: Vec<u16>, room: usize, counts: usize },
+    Alone { world: Lent, words: Vec<u16>, room: usize, at: usize, other: Vec<i32> },
     NormalForm { words: Vec<u16>, room: usize },
     Write { asked: Asked, room: usize },
     Read { bytes: Vec<u8>, room: usize },
@@ -31,6 +36,37 @@ pub(crate) struct Lent {
 impl From<World> for Lent {
     fn from(world: World) -> Lent {
         Lent { card: world.card, bench: world.bench, maker: world.maker, values: world.values }
+    }
+}
+
+impl From<Bus> for Lent {
+    fn from(bus: Bus) -> Lent {
+        Lent { card: bus.cards, bench: bus.world.bench, maker: bus.world.maker, values: bus.values }
+    }
+}
+
+impl Lent {
+    /// The count of whole rows.
+    pub(crate) fn cards(&self) -> usize {
+        self.card.len() / 23
+    }
+
+    /// One card of several with its values.
+    pub(crate) fn one(&self, at: usize) -> Lent {
+        Lent {
+            card: self.card[23 * at..23 * at + 23].to_vec(),
+            values: self.values[128 * at..128 * at + 128].to_vec(),
+            bench: self.bench.clone(),
+            maker: self.maker.clone(),
+        }
+    }
+
+    /// All but one card of several.
+    pub(crate) fn without(&self, at: usize) -> Lent {
+        let mut fewer = self.clone();
+        fewer.card.drain(23 * at..23 * at + 23);
+        fewer.values.drain(128 * at..128 * at + 128);
+        fewer
     }
 }
 
@@ -86,6 +122,16 @@ impl Display for Case {
             }
             Case::Ignored { world, words } => write!(f, "ignored {world} words={}", joined(words)),
             Case::Zeros { world, words } => write!(f, "zeros {world} words={}", joined(words)),
+            Case::Bus { world, words, room, counts } => {
+                write!(f, "bus {world} words={} room={room} counts={counts}", joined(words))
+            }
+            Case::Single { world, words, room, counts } => {
+                write!(f, "single {world} words={} room={room} counts={counts}", joined(words))
+            }
+            Case::Alone { world, words, room, at, other } => {
+                write!(f, "alone {world} words={} room={room} at={at} ", joined(words))?;
+                write!(f, "other={}", joined(other))
+            }
             Case::NormalForm { words, room } => {
                 write!(f, "normal_form words={} room={room}", joined(words))
             }
@@ -140,6 +186,17 @@ pub(crate) fn parse(line: &str) -> Case {
         "run" => Case::Run { world: world(), words: words(), room: room(), counts: one(text("counts")) },
         "ignored" => Case::Ignored { world: world(), words: words() },
         "zeros" => Case::Zeros { world: world(), words: words() },
+        "bus" => Case::Bus { world: world(), words: words(), room: room(), counts: one(text("counts")) },
+        "single" => {
+            Case::Single { world: world(), words: words(), room: room(), counts: one(text("counts")) }
+        }
+        "alone" => Case::Alone {
+            world: world(),
+            words: words(),
+            room: room(),
+            at: one(text("at")),
+            other: list(text("other")),
+        },
         "normal_form" => Case::NormalForm { words: words(), room: room() },
         "write" => Case::Write { asked: asked(), room: room() },
         "read" => Case::Read { bytes: list(text("bytes")), room: room() },
@@ -151,5 +208,33 @@ pub(crate) fn parse(line: &str) -> Case {
             room: room(),
         },
         _ => panic!("no call is named {name}"),
+    }
+}
+
+impl Case {
+    /// The recording of a case that has one.
+    pub(crate) fn words(&mut self) -> Option<&mut Vec<u16>> {
+        match self {
+            Case::Run { words, .. } | Case::NormalForm { words, .. } => Some(words),
+            Case::Ignored { words, .. } | Case::Zeros { words, .. } => Some(words),
+            Case::Bus { words, .. } | Case::Single { words, .. } | Case::Alone { words, .. } => Some(words),
+            _ => None,
+        }
+    }
+
+    /// The same without one of its cards, where there are several and each has its values.
+    pub(crate) fn without_card(&self, gone: usize) -> Option<Case> {
+        let mut case = self.clone();
+        match &mut case {
+            Case::Bus { world, .. } if gone < world.cards() && world.values.len() == 128 * world.cards() => {
+                *world = world.without(gone);
+            }
+            Case::Alone { world, at, .. } if gone < world.cards() && gone != *at => {
+                *world = world.without(gone);
+                *at -= usize::from(gone < *at);
+            }
+            _ => return None,
+        }
+        Some(case)
     }
 }

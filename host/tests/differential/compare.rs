@@ -1,8 +1,11 @@
 //! Both sides of a case, with guards before and behind each buffer.
 
+use crate::alone::alone;
 use crate::case::{Asked, Case, Lent};
 use crate::drawn::{suits, Cause, Zero};
+use crate::drawn_bus::{classes_of, Class};
 use crate::ignored::ignored;
+use crate::side::{Run, SIDES};
 use crate::zeros::zeros;
 use kavtziron_host::abi;
 use kavtziron_host::reference::calls;
@@ -79,19 +82,77 @@ fn same_result(archive: i64, reference: i64) -> Result<i64, String> {
     }
 }
 
-/// What both sides gave: the result, and of a served single word the cause and what a Type 3 of zero drew.
+/// What both sides gave: the result, of a served single word the cause and what a Type 3 of zero drew, and of several
+/// cards what the run was like.
 pub(crate) struct Agreed {
     pub(crate) result: i64,
     pub(crate) cause: Option<Cause>,
     pub(crate) zero: Option<Zero>,
+    pub(crate) classes: Vec<Class>,
+}
+
+impl Agreed {
+    fn on(result: i64) -> Agreed {
+        Agreed { result, cause: None, zero: None, classes: Vec::new() }
+    }
 }
 
 /// Both sides of one case.
 pub(crate) fn compare(case: &Case) -> Result<Agreed, String> {
     match case {
         Case::Step { world, word, room, cause } => compare_step(world, *word, *room, *cause),
-        _ => compare_other(case).map(|result| Agreed { result, cause: None, zero: None }),
+        Case::Bus { world, words, room, counts } => {
+            let ran = compare_runs(world, words, *room, *counts, [abi::bus_run, calls::bus_run])?;
+            let classes = classes_of(world, words, *room, &ran);
+            Ok(Agreed { classes, ..Agreed::on(ran.result) })
+        }
+        _ => compare_other(case).map(Agreed::on),
     }
+}
+
+/// What both runs gave and left.
+pub(crate) struct Ran {
+    pub(crate) result: i64,
+    pub(crate) cards: Vec<i32>,
+    pub(crate) taken: usize,
+    pub(crate) replies: Vec<u8>,
+}
+
+/// Two calls that run words, lent the same.
+fn compare_runs(
+    world: &Lent,
+    words: &[u16],
+    room: usize,
+    length: usize,
+    [first, second]: [Run; 2],
+) -> Result<Ran, String> {
+    let mut cards = [Guarded::of(&world.card), Guarded::of(&world.card)];
+    let mut values = [Guarded::of(&world.values), Guarded::of(&world.values)];
+    let mut outs = [Guarded::<u8>::room(room), Guarded::room(room)];
+    let mut both = [Guarded::<u64>::room(length), Guarded::room(length)];
+    let mut results = [0; 2];
+    for (side, call) in [first, second].into_iter().enumerate() {
+        results[side] = call(
+            cards[side].inside(),
+            &world.bench,
+            &world.maker,
+            values[side].inside(),
+            words,
+            outs[side].inside(),
+            both[side].inside(),
+        );
+    }
+    let result = same_result(results[0], results[1])?;
+    same("counts", &both[0], &both[1])?;
+    same("card", &cards[0], &cards[1])?;
+    same("values", &values[0], &values[1])?;
+    same("out", &outs[0], &outs[1])?;
+    let [taken, written] = match both[0].inside() {
+        &mut [taken, written, ..] if result == 0 => [taken as usize, written as usize],
+        _ => [0, 0],
+    };
+    let replies = outs[0].inside()[..written].to_vec();
+    Ok(Ran { result, cards: cards[0].inside().to_vec(), taken, replies })
 }
 
 fn compare_step(world: &Lent, word: u16, room: usize, length: usize) -> Result<Agreed, String> {
@@ -123,50 +184,38 @@ fn compare_step(world: &Lent, word: u16, room: usize, length: usize) -> Result<A
     same("values", &values[0], &values[1])?;
     same("out", &outs[0], &outs[1])?;
     let Ok(written) = usize::try_from(result) else {
-        return Ok(Agreed { result, cause: None, zero: None });
+        return Ok(Agreed::on(result));
     };
     let cause = [causes[0].inside()[0], causes[0].inside()[1]];
     let zero = Zero::of(&world.card, word, &outs[0].inside()[..written]);
     if !suits(cause, zero, &outs[0].inside()[..written]) {
         return Err(format!("both sides gave cause {cause:?}, which the reply of {result} bytes can't have"));
     }
-    Ok(Agreed { result, cause: Some(cause), zero })
+    Ok(Agreed { cause: Some(cause), zero, ..Agreed::on(result) })
 }
 
 /// Gives the result that both gave.
 fn compare_other(case: &Case) -> Result<i64, String> {
     match case {
-        Case::Step { .. } => unreachable!("it has a function of its own"),
+        Case::Step { .. } | Case::Bus { .. } => unreachable!("they have functions of their own"),
         Case::Run { world, words, room, counts } => {
-            let mut cards = [Guarded::of(&world.card), Guarded::of(&world.card)];
-            let mut values = [Guarded::of(&world.values), Guarded::of(&world.values)];
-            let mut outs = [Guarded::<u8>::room(*room), Guarded::room(*room)];
-            let mut both = [Guarded::<u64>::room(*counts), Guarded::room(*counts)];
-            let archive = abi::run(
-                cards[0].inside(),
-                &world.bench,
-                &world.maker,
-                values[0].inside(),
-                words,
-                outs[0].inside(),
-                both[0].inside(),
-            );
-            let reference = calls::run(
-                cards[1].inside(),
-                &world.bench,
-                &world.maker,
-                values[1].inside(),
-                words,
-                outs[1].inside(),
-                both[1].inside(),
-            );
-            let result = same_result(archive, reference)?;
-            same("counts", &both[0], &both[1])?;
-            same("card", &cards[0], &cards[1])?;
-            same("values", &values[0], &values[1])?;
-            same("out", &outs[0], &outs[1])?;
+            let ran = compare_runs(world, words, *room, *counts, [abi::run, calls::run])?;
+            Ok(ran.result)
+        }
+        Case::Single { world, words, room, counts } => {
+            let mut result = 0;
+            for side in &SIDES {
+                let ran = compare_runs(world, words, *room, *counts, [side.bus_run, side.run]);
+                let name = side.name;
+                result = ran
+                    .map_err(|what| {
+                        format!("{name}, kav_bus_run for archive, kav_run for reference: {what}")
+                    })?
+                    .result;
+            }
             Ok(result)
         }
+        Case::Alone { world, words, room, at, other } => alone(world, words, *room, *at, other),
         Case::Ignored { world, words } => ignored(world, words),
         Case::Zeros { world, words } => zeros(world, words),
         Case::NormalForm { words, room } => {

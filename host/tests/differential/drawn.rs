@@ -1,6 +1,7 @@
 //! How often the random groups drew each cause, each position and each answer to a Type 3 of zero. One that
 //! they never did is a failure of the tests themselves.
 
+use crate::drawn_bus::DrawnBus;
 use kavtziron_host::gen::on_line;
 
 /// Code and position.
@@ -80,6 +81,7 @@ pub(crate) struct Drawn {
     codes: [u64; 11],
     positions: [u64; 10],
     zeros: [u64; ZEROS.len()],
+    pub(crate) bus: DrawnBus,
 }
 
 fn add<const LENGTH: usize>(sums: &mut [u64; LENGTH], more: &[u64; LENGTH]) {
@@ -103,6 +105,7 @@ impl Drawn {
         add(&mut self.codes, &other.codes);
         add(&mut self.positions, &other.positions);
         add(&mut self.zeros, &other.zeros);
+        self.bus.add(&other.bus);
     }
 
     /// Each cause, position and answer with its count.

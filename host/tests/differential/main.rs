@@ -15,11 +15,15 @@
 //! ```
 
 #[cfg(kav_linked)]
+mod alone;
+#[cfg(kav_linked)]
 mod case;
 #[cfg(kav_linked)]
 mod compare;
 #[cfg(kav_linked)]
 mod drawn;
+#[cfg(kav_linked)]
+mod drawn_bus;
 #[cfg(kav_linked)]
 mod groups;
 #[cfg(kav_linked)]

@@ -61,38 +61,25 @@ fn run_group(at: usize, seed: u64, numbers: u64, traced: bool, drawn: &Mutex<Dra
     (count.into_inner(), found.into_inner().unwrap())
 }
 
-/// A smaller case that fails too, if the words or bytes can be made fewer.
+/// A smaller case that fails too, if the cards, words or bytes can be made fewer.
 fn smaller(mut failure: Failure) -> Failure {
-    fn without<T: Clone>(all: &[T], from: usize, length: usize) -> Vec<T> {
-        [&all[..from], &all[from + length..]].concat()
-    }
     let try_case = |case: Case| compare(&case).err().map(|what| Failure { what, case });
-    let mut length = match &failure.case {
-        Case::Run { words, .. } | Case::NormalForm { words, .. } => words.len(),
-        Case::Ignored { words, .. } | Case::Zeros { words, .. } => words.len(),
-        _ => 0,
-    };
+    let mut card = 0;
+    while let Some(next) = failure.case.without_card(card) {
+        match try_case(next) {
+            Some(small) => failure = small,
+            None => card += 1,
+        }
+    }
+    let mut length = failure.case.words().map_or(0, |words| words.len());
     while length > 0 {
         let mut from = 0;
         loop {
-            let next = match &failure.case {
-                Case::Run { world, words, room, counts } if from + length <= words.len() => Case::Run {
-                    world: world.clone(),
-                    words: without(words, from, length),
-                    room: *room,
-                    counts: *counts,
-                },
-                Case::Ignored { world, words } if from + length <= words.len() => {
-                    Case::Ignored { world: world.clone(), words: without(words, from, length) }
-                }
-                Case::Zeros { world, words } if from + length <= words.len() => {
-                    Case::Zeros { world: world.clone(), words: without(words, from, length) }
-                }
-                Case::NormalForm { words, room } if from + length <= words.len() => {
-                    Case::NormalForm { words: without(words, from, length), room: *room }
-                }
-                _ => break,
+            let mut next = failure.case.clone();
+            let Some(words) = next.words().filter(|words| from + length <= words.len()) else {
+                break;
             };
+            words.drain(from..from + length);
             match try_case(next) {
                 Some(small) => failure = small,
                 None => from += length,
@@ -202,7 +189,9 @@ pub(crate) fn main() -> ExitCode {
             }
         }
     }
-    if !drawn.into_inner().unwrap().print() {
+    let drawn = drawn.into_inner().unwrap();
+    let (all, often) = (drawn.print(), drawn.bus.print(seeds.len() as u64, times, part));
+    if !all || !often {
         return ExitCode::FAILURE;
     }
     println!("differential: {total} cases agree, {:.1} s", start.elapsed().as_secs_f64());

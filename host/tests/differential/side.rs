@@ -5,21 +5,35 @@ use kavtziron_host::abi;
 use kavtziron_host::reference::calls;
 use kavtziron_host::reference::message::{Data, Kind, Message};
 
-type Run = fn(&mut [i32], &[i32], &[i32], &mut [i32], &[u16], &mut [u8], &mut [u64]) -> i64;
+/// `kav_run` and `kav_bus_run` are lent the same.
+pub(crate) type Run = fn(&mut [i32], &[i32], &[i32], &mut [i32], &[u16], &mut [u8], &mut [u64]) -> i64;
 type Write = fn(u8, u32, u8, u8, i32, u32, u32, &mut [u8]) -> i64;
 type NormalForm = fn(&[u16], &mut [u16]) -> i64;
 
 /// One side of the comparison.
 pub(crate) struct Side {
     pub(crate) name: &'static str,
-    run: Run,
+    pub(crate) run: Run,
+    pub(crate) bus_run: Run,
     write: Write,
     normal_form: NormalForm,
 }
 
 pub(crate) const SIDES: [Side; 2] = [
-    Side { name: "archive", run: abi::run, write: abi::write, normal_form: abi::normal_form },
-    Side { name: "reference", run: calls::run, write: calls::write, normal_form: calls::normal_form },
+    Side {
+        name: "archive",
+        run: abi::run,
+        bus_run: abi::bus_run,
+        write: abi::write,
+        normal_form: abi::normal_form,
+    },
+    Side {
+        name: "reference",
+        run: calls::run,
+        bus_run: calls::bus_run,
+        write: calls::write,
+        normal_form: calls::normal_form,
+    },
 ];
 
 /// What playing a recording leaves, but for the message open afterwards.

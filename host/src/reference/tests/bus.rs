@@ -206,10 +206,13 @@ fn open_messages_that_differ() {
     }
 }
 
+/// What is made wrong at a card.
+type Fault = fn(&mut Lent, usize);
+
 /// Each number before each that comes behind it, at any card.
 #[test]
 fn order_of_refusals() {
-    let faults: [(i64, fn(&mut Lent, usize)); 10] = [
+    let faults: [(i64, Fault); 10] = [
         (1, |lent, at| lent.cards[23 * at + 22] = 3),
         (1, |lent, _| lent.cards.push(0)),
         (8, |lent, at| lent.cards[23 * at + 2..23 * at + 4].copy_from_slice(&[1, 76])),

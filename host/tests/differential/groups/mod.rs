@@ -1,5 +1,7 @@
 //! The groups of cases, what they hand them to, and what several of them draw.
 
+mod bus;
+mod bus_refused;
 mod cause;
 mod lookup;
 mod neighbours;
@@ -15,6 +17,8 @@ mod zero;
 use crate::case::Case;
 use crate::compare::{compare, Agreed};
 use crate::drawn::{Cause, Drawn};
+use bus::{bus_alone, bus_in_parts, bus_long, bus_offers, bus_random, bus_rooms, bus_single, bus_spoiled};
+use bus_refused::{bus_lengths, bus_no_card, bus_numbers, bus_refusals, bus_unfit};
 use cause::{causes_known, causes_together};
 use kavtziron_host::gen::{self, Mixture, Rng, World};
 use lookup::{lookup_every, lookup_random};
@@ -77,6 +81,7 @@ impl Bench {
         let agreed = compare(case).map_err(|what| Box::new(Failure { what, case: case.clone() }))?;
         agreed.cause.into_iter().for_each(|cause| self.drawn.count(cause));
         agreed.zero.into_iter().for_each(|zero| self.drawn.count_zero(zero));
+        agreed.classes.iter().for_each(|&class| self.drawn.bus.count(class));
         Ok(agreed)
     }
 }
@@ -181,4 +186,17 @@ pub(crate) const GROUPS: &[Group] = &[
     Group { name: "read: every edit, address and room", numbers: 24, random: true, make: read_edits },
     Group { name: "lookup: random", numbers: 150_000, random: true, make: lookup_random },
     Group { name: "lookup: every identifier and room", numbers: 500, random: true, make: lookup_every },
+    Group { name: "bus: every set of refusals", numbers: 128 * 60, random: true, make: bus_refusals },
+    Group { name: "bus: each number of a row", numbers: 23 * 180, random: true, make: bus_numbers },
+    Group { name: "bus: unfit cards", numbers: 11 * 240, random: true, make: bus_unfit },
+    Group { name: "bus: lengths", numbers: 2_800, random: true, make: bus_lengths },
+    Group { name: "bus: no card", numbers: 4_000, random: true, make: bus_no_card },
+    Group { name: "bus: random", numbers: 17_000, random: true, make: bus_random },
+    Group { name: "bus: one or two numbers spoiled", numbers: 8_000, random: true, make: bus_spoiled },
+    Group { name: "bus: offers at several cards", numbers: 1_500, random: true, make: bus_offers },
+    Group { name: "bus: every room", numbers: 600, random: true, make: bus_rooms },
+    Group { name: "bus: in parts", numbers: 1_000, random: true, make: bus_in_parts },
+    Group { name: "bus: long", numbers: 30, random: true, make: bus_long },
+    Group { name: "bus: one card as by run", numbers: 10_000, random: true, make: bus_single },
+    Group { name: "bus: each card alone", numbers: 4_000, random: true, make: bus_alone },
 ];
