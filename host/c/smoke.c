@@ -1,5 +1,5 @@
 /*
- * The seven functions from C, each of them served and refused. From host/:
+ * The eight functions from C, each of them served and refused. From host/:
  *
  *   gcc -std=c11 -Wall -Wextra -O2 -I. c/smoke.c ../target/staticlib/libabi.a -o c/smoke && c/smoke
  *
@@ -254,6 +254,60 @@ int main(void) {
                    KAV_SILENCE, out, sizeof out, cause, KAV_CAUSE), -1);
     card[16] = 0;
 
+    /* L7 and R7 on one pair, each with its own offer, revision and values. Then what makes them no bench. */
+    int32_t cards[2 * KAV_CARD] = {'L', 7, [22] = 1, [KAV_CARD] = 'R', 7, [KAV_CARD + 22] = 2};
+    int32_t both[2 * KAV_VALUES];
+    memcpy(both, values, sizeof values);
+    memcpy(both + KAV_VALUES, values, sizeof values);
+    uint64_t three[3] = {77, 77, 77};
+    length = words_of("L7m#00301*R7m#00401*L8mI*R7mI*L7mI*R7J#00006*L7J", words);
+    check("bus", kav_bus_run(cards, 2 * KAV_CARD, bench, bench_length, maker, 0, both, 2 * KAV_VALUES,
+                             words, length, out, sizeof out, three, 3), 0);
+    check("words taken", (int64_t)three[0], (int64_t)length);
+    check_text("replies", out, (int64_t)three[1], "L7m00301I*R7m00401I*R7m00401A*L7m00301A*R7J00001N*");
+    check("the number behind the counts", (int64_t)three[2], 77);
+    check("value of L7", both['m'], 30);
+    check("value of R7", both[KAV_VALUES + 'm'], 40);
+    check("open characters at L7", cards[2], 3);
+    check("open characters at R7", memcmp(cards + 2, cards + KAV_CARD + 2, 11 * sizeof *cards), 0);
+    length = words_of("+*R7m+*", words);
+    check("bus with room for one reply",
+          kav_bus_run(cards, 2 * KAV_CARD, bench, bench_length, maker, 0, both, 2 * KAV_VALUES,
+                      words, length, out, 19, counts, 2), 0);
+    check("words taken", (int64_t)counts[0], (int64_t)length - 1);
+    check_text("reply", out, (int64_t)counts[1], "L7J00051A*");
+    check("value of R7", both[KAV_VALUES + 'm'], 40);
+    check("open characters at L7", cards[2], 4);
+    check("open characters at R7", cards[KAV_CARD + 2], 4);
+    check("bus with no card", kav_bus_run(cards, 0, bench, bench_length, maker, 0, both, 0,
+                                          words, length, out, 0, counts, 2), 0);
+    check("words taken", (int64_t)counts[0], (int64_t)length);
+    check("bytes written", (int64_t)counts[1], 0);
+    const struct {
+        const char *what;
+        int32_t place, number;
+        size_t cards, bench, values, counts;
+        int64_t wanted;
+    } buses[] = {
+        {"a part of a row", 0, 'L', 45, 24, 256, 2, -1},
+        {"no revision and a part of a sheet", KAV_CARD + 22, 3, 46, 23, 256, 2, -1},
+        {"two alike and a part of a sheet", 0, 'R', 46, 23, 256, 2, -8},
+        {"open messages that differ", KAV_CARD + 2, 5, 46, 24, 256, 2, -8},
+        {"a part of a sheet and an offer that is none", 13, 2, 46, 23, 256, 2, -2},
+        {"an offer that is none and few values", 13, 2, 46, 24, 255, 2, -1},
+        {"few values", 0, 'L', 46, 24, 255, 2, -3},
+        {"short counts", 0, 'L', 46, 24, 256, 1, -5},
+    };
+    for (size_t which = 0; which < sizeof buses / sizeof *buses; which++) {
+        int32_t changed[2 * KAV_CARD];
+        memcpy(changed, cards, sizeof cards);
+        changed[buses[which].place] = buses[which].number;
+        check(buses[which].what,
+              kav_bus_run(changed, buses[which].cards, bench, buses[which].bench, maker, 0,
+                          both, buses[which].values, words, length, out, sizeof out,
+                          counts, buses[which].counts), buses[which].wanted);
+    }
+
     length = words_of("xL07M?*L7J#00006*L07J#00001*L7", words);
     int64_t count = kav_normal_form(words, length, normal, 64);
     for (int64_t at = 0; at < count; at++) {
@@ -309,7 +363,7 @@ int main(void) {
     check("lookup with little room", kav_lookup(bench, bench_length, maker, 0, 'Z', row, 5), -5);
 
     if (!failed) {
-        puts("smoke: all seven functions answer");
+        puts("smoke: all eight functions answer");
     }
     return failed;
 }
