@@ -5,6 +5,7 @@
 //! cargo run --release --bin bench -- --rounds 31
 //! cargo run --release --bin bench -- --quick          # 10^4 words alone, to see that it runs
 //! bench --once run proved 100000 64                   # one call, for callgrind
+//! bench --once "bus 32" proved 100000 64 0             # the same with no word lent: the checks alone
 //! bench --record 1000000 recording.bin                # a recording for the listing, two bytes a word
 //! ```
 
@@ -20,7 +21,7 @@ fn main() {
 
 #[cfg(kav_linked)]
 mod linked {
-    use kavtziron_host::gen::{self, Rng, World};
+    use kavtziron_host::gen::{self, Bus, Rng, World};
     use kavtziron_host::{abi, reference::calls};
     use std::fs::File;
     use std::hint::black_box;
@@ -39,6 +40,10 @@ mod linked {
         words: Vec<u16>,
         /// A card that names five identifiers, and a recording whose every fourth message queries them.
         scanned: (World, Vec<u16>),
+        /// Thirty-two cards, and recordings of messages for the first alone and for all of them.
+        bus: Bus,
+        first: Vec<u16>,
+        spread: Vec<u16>,
         /// Messages to write, so that as many bytes come out as there are words.
         asked: Vec<(u8, u32, u8, u8, i32, u32)>,
         /// Replies to read, of as many bytes together.
@@ -74,7 +79,15 @@ mod linked {
             let identifiers = (0..length / 10).map(|_| rng.pick(&codes)).collect();
             let (out, normal) = (vec![0; length * 7 + 33], vec![0; length]);
             let scanned = scanned(&mut rng, length, rows);
-            Input { world, words, scanned, asked, replies, identifiers, out, normal }
+            let bus = Bus::plain(&mut rng, &world, 32);
+            let [first, spread] = [1, 32].map(|cards| without_scans(bus.talk(&mut rng, cards, length)));
+            Input { world, words, scanned, bus, first, spread, asked, replies, identifiers, out, normal }
+        }
+
+        /// Only so many words of each recording are lent.
+        fn lend(&mut self, count: usize) {
+            let Input { words, scanned: (_, scans), first, spread, .. } = self;
+            [words, scans, first, spread].into_iter().for_each(|words| words.truncate(count));
         }
     }
 
@@ -118,6 +131,33 @@ mod linked {
 
     fn scan(side: Side, input: &mut Input) -> u64 {
         play(side, &input.scanned.0, &input.scanned.1, &mut input.out)
+    }
+
+    /// The first card of the bench by itself, by the call for one card.
+    fn bus_run(side: Side, input: &mut Input) -> u64 {
+        play(side, &input.world, &input.first, &mut input.out)
+    }
+
+    fn play_bus(side: Side, bus: &Bus, count: usize, words: &[u16], out: &mut [u8]) -> u64 {
+        let (mut cards, mut values) = (bus.cards[..23 * count].to_vec(), bus.values[..128 * count].to_vec());
+        let mut counts = [0; 2];
+        let call = if side == Side::Proved { abi::bus_run } else { calls::bus_run };
+        let World { bench, maker, .. } = &bus.world;
+        let result = call(&mut cards, bench, maker, &mut values, words, out, &mut counts);
+        assert_eq!((result, counts[0]), (0, words.len() as u64));
+        counts[1]
+    }
+
+    fn bus_1(side: Side, input: &mut Input) -> u64 {
+        play_bus(side, &input.bus, 1, &input.first, &mut input.out)
+    }
+
+    fn bus_32(side: Side, input: &mut Input) -> u64 {
+        play_bus(side, &input.bus, 32, &input.first, &mut input.out)
+    }
+
+    fn bus_spread(side: Side, input: &mut Input) -> u64 {
+        play_bus(side, &input.bus, 32, &input.spread, &mut input.out)
     }
 
     fn step(side: Side, input: &mut Input) -> u64 {
@@ -180,7 +220,7 @@ mod linked {
         sum as u64
     }
 
-    const CALLS: [(&str, Measured); 8] = [
+    const CALLS: [(&str, Measured); 12] = [
         ("run", run),
         ("normal form", normal_form),
         ("step", step),
@@ -189,6 +229,10 @@ mod linked {
         ("line", line),
         ("lookup", lookup),
         ("scan", scan),
+        ("bus run", bus_run),
+        ("bus 1", bus_1),
+        ("bus 32", bus_32),
+        ("bus spread", bus_spread),
     ];
 
     fn median(mut times: Vec<f64>) -> f64 {
@@ -239,13 +283,14 @@ mod linked {
         for (name, call) in CALLS {
             for &length in lengths {
                 for rows in SHEETS {
-                    let with_sheets = matches!(name, "run" | "step" | "lookup" | "scan");
+                    let bus = name.starts_with("bus");
+                    let with_sheets = bus || matches!(name, "run" | "step" | "lookup" | "scan");
                     if !with_sheets && rows != SHEETS[0] {
                         continue;
                     }
                     let mut input = Input::new(length, rows);
                     let rounds = match length {
-                        1_000_000 if matches!(name, "step" | "lookup") => 3,
+                        1_000_000 if bus || matches!(name, "step" | "lookup") => 3,
                         1_000_000 => rounds.min(11),
                         100_000 => rounds,
                         _ => rounds * 5,
@@ -309,8 +354,8 @@ mod linked {
 
     /// One call and nothing else of weight, to count its instructions.
     fn once(args: &[String]) {
-        let [name, side, length, rows] = args else {
-            panic!("--once CALL proved|reference WORDS ROWS");
+        let [name, side, length, rows, lent @ ..] = args else {
+            panic!("--once CALL proved|reference WORDS ROWS [WORDS LENT]");
         };
         let call = CALLS.iter().find(|call| call.0 == name).expect("the name of a call").1;
         let side = match side.as_str() {
@@ -319,6 +364,7 @@ mod linked {
             _ => panic!("proved or reference"),
         };
         let mut input = Input::new(length.parse().unwrap(), rows.parse().unwrap());
+        lent.iter().for_each(|count| input.lend(count.parse().unwrap()));
         println!("{}", call(side, &mut input));
     }
 

@@ -69,6 +69,39 @@ impl Bus {
         bus
     }
 
+    /// Plain cards for measurements, the world's first: no message open, no offer, no scan, the first revision.
+    pub fn plain(rng: &mut Rng, world: &World, count: usize) -> Bus {
+        let mut bus = Bus { cards: Vec::new(), values: world.values.clone(), world: world.clone() };
+        for at in 0..count {
+            let mut card = [0; 23];
+            card[0] = if at % 2 == 0 { world.card[0] } else { world.card[0] ^ 76 ^ 82 };
+            card[1] = (world.card[1] - 1 + at as i32) % 99 + 1;
+            card[22] = 1;
+            bus.cards.extend_from_slice(&card);
+        }
+        (1..count).for_each(|_| bus.values.extend(values(rng, &world.rows)));
+        bus
+    }
+
+    /// A recording of exactly so many words that has messages for the first so many cards and for no other, each of
+    /// them as good a guess as the next, and four of five settings followed by their Type 4.
+    pub fn talk(&self, rng: &mut Rng, cards: usize, length: usize) -> Vec<u16> {
+        let (mut words, mut text) = (Vec::with_capacity(length + 64), Vec::new());
+        while words.len() < length {
+            let card = &self.cards[23 * rng.below(cards)..][..2];
+            let head = format!("{}{}", card[0] as u8 as char, card[1]).into_bytes();
+            text.clear();
+            message(rng, &self.world, &mut text);
+            let body: Vec<u8> = text[1..].iter().copied().skip_while(u8::is_ascii_digit).collect();
+            words.extend(words_of(&[&head, &body[..]].concat()));
+            if body.get(1) == Some(&b'#') && rng.percent(80) {
+                words.extend(words_of(&[&head, &body[..1], b"I*"].concat()));
+            }
+        }
+        words.truncate(length);
+        words
+    }
+
     pub fn count(&self) -> usize {
         self.cards.len() / 23
     }
