@@ -1,4 +1,4 @@
--- What only this crate's functions use, and no call and no claim cites: a message on `]` and on any other identifier by itself, and a message
+-- Definitions for this crate's functions and for what a run does with a closed message (`card`); no call and no claim cites them: a message on `]` and on any other identifier by itself, and a message
 -- by its type, with the tests that its type has. `proofs/Judged` shows that the list of tests comes to this.
 use mathlib.Core.Bool.{cond, _&&_}
 use mathlib.Core.List.{List}

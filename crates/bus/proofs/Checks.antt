@@ -24,7 +24,7 @@ use Rattle.card.proofs.Sounds.{card-parts}
 use Rattle.bus.specs.Bus.{parts}
 use Rattle.bus.specs.Refusals.{apart, sameOpen, together, soundBus, fitsSheets, soundParts, busChecks}
 use Rattle.bus.specs.Rows.{rowsIn, cardsOf, isRows, rowsChecks}
-use Rattle.bus.specs.Inner.{setupIn, pendingIn, soundRow, fitsRow}
+use Rattle.bus.specs.Inner.{setupIn, pendingIn, soundCardRow, cardRowFits}
 use Rattle.bus.proofs.Parts.{parts-length, parts-some, every-made}
 use Rattle.bus.proofs.Sharing.{same-open, open-same, bus-apart, no-cards}
 
@@ -41,8 +41,8 @@ pub made-twice : {A : Type 0} (g : Card → A) (rows : List (List ℤ)) → map 
 made-twice g [] = refl
 made-twice g (r ∷ rows) = ap (λ (l : List _). g (cardOf r) ∷ l) (made-twice g rows)
 
-every-sound : (rows : List (List ℤ)) → every soundRow rows ≡ (every isRow rows && every soundCard (map cardOf rows))
-unfolding every soundRow
+every-sound : (rows : List (List ℤ)) → every soundCardRow rows ≡ (every isRow rows && every soundCard (map cardOf rows))
+unfolding every soundCardRow
 every-sound [] = refl
 every-sound (r ∷ rows) =
     ap (λ (b : Bool). (isRow r && soundCard (cardOf r)) && b) (every-sound rows) ∙ turn (isRow r) (soundCard (cardOf r)) (every isRow rows) (every soundCard (map cardOf rows))
@@ -54,13 +54,13 @@ every-sound (r ∷ rows) =
     turn false b c d = refl
 
 -- the code's first test is number 1's in its first place
-pub rows-sound : (numbers : List ℤ) → (eqb (length numbers % 23) 0 && every soundRow (rowsIn numbers)) ≡ (isRows numbers && every soundCard (cardsOf numbers))
+pub rows-sound : (numbers : List ℤ) → (eqb (length numbers % 23) 0 && every soundCardRow (rowsIn numbers)) ≡ (isRows numbers && every soundCard (cardsOf numbers))
 unfolding isRows
 rows-sound numbers =
     ap (λ (b : Bool). eqb (length numbers % 23) 0 && b) (every-sound (rowsIn numbers)) ∙ sym (and-assoc (eqb (length numbers % 23) 0) (every isRow (rowsIn numbers)) (every soundCard (cardsOf numbers)))
 
-pub all-fit : (bench maker numbers : List ℤ) → every (fitsRow bench maker) (rowsIn numbers) ≡ every (fitsSheets bench maker) (cardsOf numbers)
-unfolding fitsRow
+pub all-fit : (bench maker numbers : List ℤ) → every (cardRowFits bench maker) (rowsIn numbers) ≡ every (fitsSheets bench maker) (cardsOf numbers)
+unfolding cardRowFits
 all-fit bench maker numbers = sym (every-made (fitsSheets bench maker) cardOf (rowsIn numbers))
 
 -- ---- number 8

@@ -33,12 +33,12 @@ abbrev pub pendingIn : List ℤ → Pending
 pendingIn row = cardOf row .pending
 
 -- some card, sound by itself
-unfoldable pub soundRow : List ℤ → Bool
-soundRow row = isRow row && soundCard (cardOf row)
+unfoldable pub soundCardRow : List ℤ → Bool
+soundCardRow row = isRow row && soundCard (cardOf row)
 
 -- its offer and its scan
-unfoldable pub fitsRow : List ℤ → List ℤ → List ℤ → Bool
-fitsRow bench maker row = fitsSheets bench maker (cardOf row)
+unfoldable pub cardRowFits : List ℤ → List ℤ → List ℤ → Bool
+cardRowFits bench maker row = fitsSheets bench maker (cardOf row)
 
 -- ---- the card that is meant
 

@@ -11,7 +11,7 @@ ghost use Rattle.refusal.specs.Check.{first};
 ghost use Rattle.card.specs.Calls.{runOutcome};
 ghost use Rattle.bus.specs.Refusals.{soundParts};
 ghost use Rattle.bus.specs.Rows.{rowsIn, rowsChecks, rowsCall};
-ghost use Rattle.bus.specs.Inner.{soundRow, fitsRow};
+ghost use Rattle.bus.specs.Inner.{soundCardRow, cardRowFits};
 use card::RunAnswer;
 use refusal::Refusal;
 use refusal::Verdict;
@@ -20,14 +20,14 @@ mod pair;
 
 // A row that is some card, sound by itself.
 fn is_sound(row: &[i32]) -> bool
-    ensures { λ r. ⌜ r ≡ soundRow (now (row .entry)) ⌝ }
+    ensures { λ r. ⌜ r ≡ soundCardRow (now (row .entry)) ⌝ }
 {
     row::is_row(row) & card::sound_card(row::card_of(row))
 }
 
 // Whole rows and nothing more, each sound by itself.
 fn sound_rows(numbers: &[i32]) -> bool
-    ensures { λ r. ⌜ r ≡ eqb (length (now (numbers .entry)) % 23) 0 && every soundRow (rowsIn (now (numbers .entry))) ⌝ }
+    ensures { λ r. ⌜ r ≡ eqb (length (now (numbers .entry)) % 23) 0 && every soundCardRow (rowsIn (now (numbers .entry))) ⌝ }
 {
     if numbers.len() % row::LENGTH != 0 {
         return false;
@@ -47,7 +47,7 @@ fn sound_rows(numbers: &[i32]) -> bool
 
 // Whether the row's offer and scan are sound under these sheets.
 fn fits_sheets<'a>(row: &[i32], bench: &'a [i32], maker: &'a [i32]) -> bool
-    ensures { λ r. ⌜ r ≡ fitsRow (now (bench .entry)) (now (maker .entry)) (now (row .entry)) ⌝ }
+    ensures { λ r. ⌜ r ≡ cardRowFits (now (bench .entry)) (now (maker .entry)) (now (row .entry)) ⌝ }
 {
     let held = row::card_of(row);
     let offer = held.offer;
@@ -57,7 +57,7 @@ fn fits_sheets<'a>(row: &[i32], bench: &'a [i32], maker: &'a [i32]) -> bool
 
 // Each of the rows.
 fn all_fit<'a>(numbers: &[i32], bench: &'a [i32], maker: &'a [i32]) -> bool
-    ensures { λ r. ⌜ r ≡ every (fitsRow (now (bench .entry)) (now (maker .entry))) (rowsIn (now (numbers .entry))) ⌝ }
+    ensures { λ r. ⌜ r ≡ every (cardRowFits (now (bench .entry)) (now (maker .entry))) (rowsIn (now (numbers .entry))) ⌝ }
 {
     let count = numbers.len() / row::LENGTH;
     let mut i = 0;

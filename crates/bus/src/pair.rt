@@ -186,7 +186,8 @@ fn table_of(setups: [Setup; MOST_CARDS], count: usize) -> [usize; SLOTS]
     table
 }
 
-// The card that is meant by what was closed; for what isn't heard any will do, and the first is given.
+// The card that is meant by what was closed. What isn't heard and what is for nobody are given to the first card, which takes no notice of
+// them.
 fn meant_by(table: &[usize], parsed: Parsed) -> usize
     ensures { λ r. ⌜ r ≡ meantBy (now (table .entry)) parsed ⌝ }
 {
@@ -251,7 +252,7 @@ fn finish(
 }
 
 // The words of a run that passed. They are heard once for all the cards, up to one that closes a message; that one is for the card that is
-// meant, and the others take no notice of it.
+// meant, and no other would take notice of it.
 pub(crate) fn take_all<'a>(
     numbers: &mut [i32],
     bench: &'a [i32],

@@ -1,4 +1,4 @@
--- The bench cases, by computing: this file alone of demands opens the definitions of every crate, since it computes them.
+-- The bench cases, by computing: this file and `BusCases` alone of demands open the definitions of every crate, since they compute them.
 -- Assumes nothing.
 use mathlib.Core.Path.{_≡_, refl}
 use mathlib.Core.Bool.{Bool, true, _&&_, _||_}
@@ -43,17 +43,13 @@ use Rattle.card.specs.Turn.{effectOf, turned, turn, stored}
 use Rattle.card.specs.Cause.{whyClosed, whyAfter, whyTo}
 use Rattle.card.specs.Refusals.{isRevision, soundScan, soundSetup, soundCard, offerable, soundOffer, cardChecks, stepChecks}
 use Rattle.card.specs.Calls.{stepCall, runCall}
-use Rattle.bus.specs.Bus.{parts, joined, instruments, hearsAll}
-use Rattle.bus.specs.Refusals.{alike, apart, sameOpen, together, soundBus, fitsSheets, soundParts, busChecks}
-use Rattle.bus.specs.Calls.{busCall}
 use Rattle.demands.specs.Terms.{Sound}
 use Rattle.demands.specs.Causes.{sameWhy, isAmong, gaveCause, drawsIt, causeCases, everyCause, hasCase}
 use Rattle.demands.specs.Zeros.{zeroForms, wroteThese, isOwnForm}
-use Rattle.demands.specs.Bus.{repliesIn, spokenBy, onlyBy, standsAt, threeCards, valuesWith, takes, allAnswer, BusCase, passesBus, busCases, picks, pickCases, cardsUpTo, halfOpen, numberGiven, givesBoth, busRefusals, BusTables}
 use Rattle.demands.specs.Bench.{benchRows, benchValues, cardWith, Case, benchCases, twentyNeighbours, moreCases, firstCases, secondCases, scanCases, noReplies, timeRow, scanValues, equalZ, took, answersAll, passesOn, passes, passesScan, isNoReply}
 
 -- what a table computes through
-computed : List Case → Bool
+unfoldable pub computed : List Case → Bool
 unfolding ones onesIn every same laid first evenParity withParity received travelling validWords inRange isMultiple cutDown cut raised lowered digit isDigit digitOf fits codeOf fiveDigits spellData decode readNext readFrom readData isLetter isAddress isIdentifier extendIdentifier extendAddress extendData extendBody extend extendAll finish parse spellAddress none added openOf opening continuing actionOf perform hear plainChar plain zeros soundPending rows soundIdentifier soundNumbers soundRow soundRows soundSheet codeIs lookup.isFor rowAmong placeAmong rowIn placeIn hasRow rowOf numbersOf entryOf entryIn isReadable isWritable isReadWrite fitsRow fitsPlace soundFrom soundValues spellContent spellAnswer says accepts shownBy offers granted isOffered standing onBracket isFor takesZero asksMinusZero causes turnedDown respond act effectOf turned turn stored playing isRevision soundSetup soundCard offerable soundOffer isReadableEntry namesFrom soundScan cardChecks runCall benchRows benchValues cardWith equalZ took answersAll passesOn
 computed xs = every passes xs
 
@@ -135,25 +131,3 @@ bench-sound = record { card-sound = refl; sheets-sound = refl; offer-sound = ref
 pub both-revisions : isRevision 2 ≡ isRevision 1
 unfolding computed
 both-revisions = refl
-
--- ---- many cards on one pair
-
--- what their tables compute through too
-computed-bus : List BusCase → Bool
-unfolding computed parts joined instruments hearsAll alike apart sameOpen together soundBus fitsSheets soundParts busChecks busCall standsAt threeCards valuesWith takes allAnswer passesBus
-computed-bus xs = every passesBus xs
-
-bus-answered : every passesBus busCases ≡ true
-unfolding computed computed-bus busCases
-bus-answered = refl
-
-own-replies : every picks pickCases ≡ true
-unfolding computed computed-bus charactersOf guessMark readOrZero decimalAt guessContent guessBehind guess isReply readCall isNoNumber fitsContent isAnswer repliesIn spokenBy onlyBy picks pickCases
-own-replies = refl
-
-bus-refused : every givesBoth busRefusals ≡ true
-unfolding computed computed-bus cardsUpTo halfOpen numberGiven givesBoth busRefusals
-bus-refused = refl
-
-pub bus-tables : BusTables
-bus-tables = record { answered = bus-answered; own-replies = own-replies; refused = bus-refused }

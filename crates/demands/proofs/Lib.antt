@@ -1,4 +1,5 @@
 pub mod Cases
+pub mod BusCases
 pub mod Refusals
 pub mod Words
 pub mod Kept

@@ -1,21 +1,17 @@
 -- Document 02, ticket 6: "One pair, one recording, many instruments". The claims are about the call `bus::run`, over lists of cards and whole
--- recordings; `Demand1` has its refusals.
+-- recordings; `Demand1` has its refusals, and `BusCases` the tables.
 use mathlib.Core.Path.{_≡_}
 use mathlib.Core.Logic.{_⊎_}
 use mathlib.Core.Bool.{Bool, true, false, cond, _&&_}
 use mathlib.Core.List.{List, [], _∷_, _++_, map}
-use Prim.Native.Nat.{ℕ, zero, suc, _*_, _≤_, _<_}
-use Prim.Native.Char.{code}
-use Prim.Native.String.{String}
+use Prim.Native.Nat.{ℕ, _*_, _≤_, _<_}
 use lib.Dec.{eqb}
-use lib.IntN.{ℤ, pos}
-use lib.ListN.{length, getD, take, drop, replicate}
-use Rattle.refusal.specs.Lists.{every, same}
+use lib.IntN.{ℤ}
+use lib.ListN.{length, getD, take, drop}
+use Rattle.refusal.specs.Lists.{every}
 use Rattle.refusal.specs.Refusal.{Outcome, refused, gave}
-use Rattle.wire.specs.Text.{chars}
-use Rattle.wire.specs.Word.{withParity, travelling, validWords}
+use Rattle.wire.specs.Word.{withParity, validWords}
 use Rattle.message.specs.Message.{star}
-use Rattle.hearing.specs.Hearing.{none, added}
 use Rattle.sheet.specs.Sheet.{soundSheet}
 use Rattle.reply.specs.declared.Answer.{Answer}
 use Rattle.reply.specs.Reply.{longestReply}
@@ -29,7 +25,6 @@ use Rattle.card.specs.Calls.{bytesOf, stepCall, Took, runCall}
 use Rattle.bus.specs.Bus.{joined, instruments, hearsAll}
 use Rattle.bus.specs.Refusals.{soundBus, fitsSheets, soundParts}
 use Rattle.bus.specs.Calls.{After, busCall}
-use Rattle.demands.specs.Bench.{benchRows, benchValues, cardWith, Exchange, _⇒_, equalZ, took}
 use Rattle.demands.specs.Terms.{replies}
 use Rattle.demands.specs.Demand3.{Wrote}
 
@@ -168,145 +163,3 @@ pub record OnePair : Type 0 where
   -- no card at all: every word taken, nothing written
   pub no-card : (bench maker : List ℤ) (ws out : List ℕ) → (soundSheet bench && soundSheet maker) ≡ true → validWords ws ≡ true
       → busCall [] bench maker [] ws out ≡ record { cards = []; outcome = gave (record { words = length ws; bytes = 0 }); values = []; buffer = out }
-
--- ---- tables
-
--- a card at another letter and address
-unfoldable pub standsAt : ℕ → ℕ → Card → Card
-standsAt l a c =
-    record { setup = record { letter = l; address = a; count = c .setup .count; scan = c .setup .scan; revision = c .setup .revision }; pending = c .pending; offer = c .offer }
-
--- the card of the bench cases, `L7`, and beside it `R7` and `L8`
-unfoldable pub threeCards : List Card
-threeCards = cardWith 1 "" ∷ standsAt (code "R") 7 (cardWith 1 "") ∷ standsAt (code "L") 8 (cardWith 1 "") ∷ []
-
--- each with the values of the bench cases, and these of m
-unfoldable pub valuesWith : List ℤ → List ℤ
-valuesWith ms = joined (map benchValues ms)
-
--- the run took so many words, and wrote this answer
-unfoldable pub takes : After → ℕ → List ℕ → Bool
-takes a words answer = took (a .outcome) words (length answer) && same eqb (take (length answer) (a .buffer)) answer
-
--- each exchange is a run over all cards, with room for three replies; and the last leaves these values
-unfoldable pub allAnswer : List Card → List ℤ → List Exchange → List ℤ → Bool
-allAnswer cs values [] last = same equalZ values last
-allAnswer cs values (x ∷ xs) last =
-    let sent : List ℕ = travelling (chars (x .sent)) in
-    let a : After = busCall cs [] benchRows values sent (replicate (3 * longestReply) 0) in
-    takes a (length sent) (travelling (chars (x .answered))) && allAnswer (a .cards) (a .values) xs last
-
--- a first run with room for so many bytes, of which so many words are taken; then exchanges, which meet the cards as that run left them. The
--- value of m is 20 at each card before, and these after.
-pub record BusCase : Type 0 where
-  pub sent : String
-  pub room : ℕ
-  pub taken : ℕ
-  pub answered : String
-  pub exchanges : List Exchange
-  pub last : List ℤ
-
-unfoldable pub passesBus : BusCase → Bool
-passesBus x =
-    let a : After = busCall threeCards [] benchRows (valuesWith (pos 20 ∷ pos 20 ∷ pos 20 ∷ [])) (travelling (chars (x .sent))) (replicate (x .room) 0) in
-    takes a (x .taken) (travelling (chars (x .answered))) && allAnswer (a .cards) (a .values) (x .exchanges) (valuesWith (x .last))
-
-unfoldable pub busCase : String → ℕ → ℕ → String → List Exchange → List ℤ → BusCase
-busCase sent room taken answered xs last = record { sent = sent; room = room; taken = taken; answered = answered; exchanges = xs; last = last }
-
--- an offer at each, and each stored in another order; all three queried; cards that aren't there; and a word whose reply doesn't fit, which no
--- card takes: it is taken later, and before it the offer isn't there, nor the value stored
-unfoldable pub busCases : List BusCase
-unfolding busCase _⇒_
-busCases =
-    busCase "L7m#00301*R7m#00401*L8m#00501*" 30 30 "L7m00301I*R7m00401I*L8m00501I*" ("R7mI*" ⇒ "R7m00401A*" ∷ "L8mI*" ⇒ "L8m00501A*" ∷ "L7mI*" ⇒ "L7m00301A*" ∷ []) (pos 30 ∷ pos 40 ∷ pos 50 ∷ [])
-    ∷ busCase "L7m#00301*R7m#00401*L8m#00501*" 30 30 "L7m00301I*R7m00401I*L8m00501I*" ("R7m?*" ⇒ "R7m00201A*" ∷ "R7mI*L8mI*L7mI*" ⇒ "L8m00501A*L7m00301A*" ∷ []) (pos 30 ∷ pos 20 ∷ pos 50 ∷ [])
-    ∷ busCase "L7m+*R7m-*" 20 10 "L7m00251A*R7m00151A*" ("L7m?*R7m?*L8m?*" ⇒ "L7m00251A*R7m00151A*L8m00201A*" ∷ []) (pos 25 ∷ pos 15 ∷ pos 20 ∷ [])
-    ∷ busCase "R8m#00301*R8mI*L9??*" 0 20 "" ("L8??*" ⇒ "L8?A*" ∷ []) (pos 20 ∷ pos 20 ∷ pos 20 ∷ [])
-    ∷ busCase "L7??*R7??*L8??*" 14 14 "L7?A*R7?A*" ("*" ⇒ "L8?A*" ∷ []) (pos 20 ∷ pos 20 ∷ pos 20 ∷ [])
-    ∷ busCase "L7m#00301*R7m#00401*" 19 19 "L7m00301I*" ("*" ⇒ "R7m00401I*" ∷ "R7mI*" ⇒ "R7m00401A*" ∷ "L7mI*" ⇒ "L7m00301A*" ∷ []) (pos 30 ∷ pos 40 ∷ pos 20 ∷ [])
-    ∷ busCase "L7m#00301*R7m#00401*" 19 19 "L7m00301I*" ("//R7mI*" ⇒ "" ∷ "L7mI*" ⇒ "L7m00301A*" ∷ []) (pos 30 ∷ pos 20 ∷ pos 20 ∷ [])
-    ∷ busCase "L7m+*R7m+*" 19 9 "L7m00251A*" [] (pos 25 ∷ pos 20 ∷ pos 20 ∷ [])
-    ∷ []
-
--- of what the run writes, each of two cards has its own
-pub record PickCase : Type 0 where
-  pub sent : String
-  pub answered : String
-  pub first : String
-  pub second : String
-
-unfoldable pub picks : PickCase → Bool
-picks x =
-    let values : List ℤ = valuesWith (pos 20 ∷ pos 20 ∷ []) in
-    let answer : List ℕ = travelling (chars (x .answered)) in
-    let sent : List ℕ = travelling (chars (x .sent)) in
-    let a : After = busCall (take 2 threeCards) [] benchRows values sent (replicate (3 * longestReply) 0) in
-    let own : ℕ → List ℕ = λ k. picked (getD threeCards k (cardWith 1 "") .setup) (take (length answer) (a .buffer)) in
-    takes a (length sent) answer && same eqb (own 0) (travelling (chars (x .first))) && same eqb (own 1) (travelling (chars (x .second)))
-
-unfoldable pub pickCases : List PickCase
-pickCases =
-    record { sent = "L7??*R7??*"; answered = "L7?A*R7?A*"; first = "L7?A*"; second = "R7?A*" }
-    ∷ record { sent = "R7m?*L7M?*R7m+*"; answered = "R7m00201A*L7M02311A*R7m00251A*"; first = "L7M02311A*"; second = "R7m00201A*R7m00251A*" }
-    ∷ []
-
--- ---- number 8
-
--- the first n addresses of a letter, from the last on
-unfoldable pub cardsUpTo : ℕ → ℕ → List Card
-cardsUpTo l zero = []
-cardsUpTo l (suc n) = standsAt l (suc n) (cardWith 1 "") ∷ cardsUpTo l n
-
--- in the middle of a message
-unfoldable pub halfOpen : Card → Card
-halfOpen c = record { setup = c .setup; pending = added none (code "L"); offer = c .offer }
-
--- the numbers that these cards get, with the bench's rows and with an unsound sheet; 0 where the call is served
-pub record BusRefusal : Type 0 where
-  pub cards : List Card
-  pub number : ℕ
-  pub unsound-sheet : ℕ
-
-unfoldable pub refusal : List Card → ℕ → ℕ → BusRefusal
-refusal cs n k = record { cards = cs; number = n; unsound-sheet = k }
-
--- the number, 0 where it is served
-unfoldable pub numberGiven : Outcome Took → ℕ
-numberGiven (refused n) = n
-numberGiven (gave t) = 0
-
-unfoldable pub givesBoth : BusRefusal → Bool
-givesBoth x =
-    let values : List ℤ = valuesWith (map (λ (c : Card). pos 20) (x .cards)) in
-    eqb (numberGiven (busCall (x .cards) [] benchRows values [] [] .outcome)) (x .number) && eqb (numberGiven (busCall (x .cards) [] (pos 0 ∷ []) values [] [] .outcome)) (x .unsound-sheet)
-
--- two cards alike, of another revision and with a scan too; more than 32; open messages that differ. It "comes after 1 but before sheets", and
--- 32 cards, and cards that all hold the same open message, aren't refused.
-unfoldable pub busRefusals : List BusRefusal
-unfolding refusal
-busRefusals =
-    refusal threeCards 0 2
-    ∷ refusal (map halfOpen threeCards) 0 2
-    ∷ refusal (cardsUpTo (code "L") 32) 0 2
-    ∷ refusal (cardWith 1 "" ∷ threeCards) 8 8
-    ∷ refusal (cardWith 1 "" ∷ standsAt (code "R") 7 (cardWith 1 "") ∷ cardWith 2 "MJmM" ∷ []) 8 8
-    ∷ refusal (cardsUpTo (code "R") 1 ++ cardsUpTo (code "L") 32) 8 8
-    ∷ refusal (cardWith 1 "" ∷ halfOpen (standsAt (code "R") 7 (cardWith 1 "")) ∷ []) 8 8
-    ∷ refusal (cardWith 1 "" ∷ cardWith 3 "" ∷ []) 1 1
-    ∷ refusal (cardWith 1 "" ∷ cardWith 1 "" ∷ standsAt (code "L") 0 (cardWith 1 "") ∷ []) 1 1
-    ∷ []
-
-pub record BusTables : Type 0 where
-  pub answered : every passesBus busCases ≡ true
-  pub own-replies : every picks pickCases ≡ true
-  pub refused : every givesBoth busRefusals ≡ true
-
--- ---- all of them
-
-pub record Bus : Type 0 where
-  pub each-alone : EachAlone
-  pub isolated : Isolated
-  pub bus-demand-3 : BusDemand3
-  pub one-pair : OnePair
-  pub bus-tables : BusTables

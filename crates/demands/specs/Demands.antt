@@ -14,7 +14,7 @@ use Rattle.demands.specs.Demand3.{Demand3}
 use Rattle.demands.specs.Neighbours.{NeighboursIgnored}
 use Rattle.demands.specs.Causes.{Causes}
 use Rattle.demands.specs.Zeros.{Zeros}
-use Rattle.demands.specs.Bus.{Bus}
+use Rattle.demands.specs.BusCases.{Bus}
 
 pub record Demands : Type 0 where
   pub demand-1 : Demand1

@@ -7,4 +7,5 @@ pub mod Neighbours
 pub mod Causes
 pub mod Zeros
 pub mod Bus
+pub mod BusCases
 pub mod Demands

@@ -2,7 +2,7 @@
 use mathlib.Core.Path.{ap, ap₂, _∙_}
 use mathlib.Core.Bool.{_&&_}
 use borrow.Author.Needs.{needs}
-use Rattle.bus.specs.Inner.{fitsRow}
+use Rattle.bus.specs.Inner.{cardRowFits}
 use Rattle.bus.specs.Refusals.{fitsSheets}
 use Rattle.card.specs.declared.Card.{Card}
 use Rattle.card.specs.Refusals.{soundOffer, soundScan}
@@ -10,7 +10,7 @@ use Rattle.bus.proofs.fits_sheets.Statement.{statement}
 use Rattle.bus.proofs.fits_sheets.Tie as tie
 
 returns : tie.Need-returns
-unfolding fitsRow fitsSheets
+unfolding cardRowFits fitsSheets
 returns c =
     let o = c .before in
     let h = o .before .before in

@@ -2,13 +2,13 @@
 use mathlib.Core.Path.{ap, ap₂, _∙_}
 use mathlib.Core.Bool.{_&&_}
 use borrow.Author.Needs.{needs}
-use Rattle.bus.specs.Inner.{soundRow}
+use Rattle.bus.specs.Inner.{soundCardRow}
 use Rattle.card.specs.Refusals.{soundCard}
 use Rattle.bus.proofs.is_sound.Statement.{statement}
 use Rattle.bus.proofs.is_sound.Tie as tie
 
 returns : tie.Need-returns
-unfolding soundRow
+unfolding soundCardRow
 returns c = ap₂ _&&_ (c .before .before .is-row .ensures) (c .sound-card .ensures ∙ ap soundCard (c .before .card-of .ensures))
 
 pub is-sound-spec : {M : Type 1} → statement M

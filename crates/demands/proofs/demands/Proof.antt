@@ -3,9 +3,10 @@ use mathlib.Core.Path.{refl}
 use Rattle.demands.proofs.demands.Statement.{statement}
 use Rattle.demands.proofs.demands.Tie as tie
 use Rattle.demands.specs.Demand2.{Demand2}
-use Rattle.demands.specs.Bus.{Bus}
+use Rattle.demands.specs.BusCases.{Bus}
 use Rattle.demands.specs.Demands.{Demands}
-use Rattle.demands.proofs.Cases.{bench, more, zeros-first, zeros-second, twenty-heard, scan, no-replies, bus-tables}
+use Rattle.demands.proofs.Cases.{bench, more, zeros-first, zeros-second, twenty-heard, scan, no-replies}
+use Rattle.demands.proofs.BusCases.{bus-tables, not-empty}
 use Rattle.demands.proofs.Refusals.{demand-1}
 use Rattle.demands.proofs.Words.{writers-heard, run-steps}
 use Rattle.demands.proofs.Kept.{stays-sound}
@@ -32,7 +33,7 @@ demand-2 = record {
 }
 
 bus : Bus
-bus = record { each-alone = each-alone; isolated = isolated; bus-demand-3 = bus-demand-3; one-pair = one-pair; bus-tables = bus-tables }
+bus = record { each-alone = each-alone; isolated = isolated; bus-demand-3 = bus-demand-3; one-pair = one-pair; not-empty = not-empty; bus-tables = bus-tables }
 
 all-hold : Demands
 all-hold = record {
