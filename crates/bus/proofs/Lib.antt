@@ -5,3 +5,4 @@ pub mod Sharing
 pub mod Checks
 pub mod Apart
 pub mod Standing
+pub mod Back

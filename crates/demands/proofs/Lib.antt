@@ -14,3 +14,4 @@ pub mod Pair
 pub mod Picked
 pub mod Alone
 pub mod Isolated
+pub mod BusRows

@@ -1,5 +1,5 @@
 -- Document 02, ticket 6: "One pair, one recording, many instruments". The claims are about the call `bus::run`, over lists of cards and whole
--- recordings; `Demand1` has its refusals, and `BusCases` the tables.
+-- recordings. `BusRows` goes from the cards to the rows that the call is lent, `Demand1` has its refusals, and `BusCases` its tables.
 use mathlib.Core.Path.{_≡_}
 use mathlib.Core.Logic.{_⊎_}
 use mathlib.Core.Bool.{Bool, true, false, cond, _&&_}

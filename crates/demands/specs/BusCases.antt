@@ -22,6 +22,7 @@ use Rattle.bus.specs.Calls.{After, busCall}
 use Rattle.demands.specs.Bench.{benchRows, benchValues, cardWith, Exchange, _⇒_, equalZ, took}
 use Rattle.demands.specs.Demand3.{Wrote}
 use Rattle.demands.specs.Bus.{SoundTogether, picked, EachAlone, ButFor, Isolated, BusDemand3, OnePair}
+use Rattle.demands.specs.BusRows.{RowsKeep}
 
 -- ---- tables
 
@@ -244,5 +245,6 @@ pub record Bus : Type 0 where
   pub isolated : Isolated
   pub bus-demand-3 : BusDemand3
   pub one-pair : OnePair
+  pub rows-keep : RowsKeep
   pub not-empty : NotEmpty
   pub bus-tables : BusTables

@@ -7,5 +7,6 @@ pub mod Neighbours
 pub mod Causes
 pub mod Zeros
 pub mod Bus
+pub mod BusRows
 pub mod BusCases
 pub mod Demands

@@ -76,7 +76,7 @@ is-close Drop e = absurd (false≢true e)
 pub closing-hears : (p : Pending) (w : ℕ) → closes (actionOf p w) ≡ true → hear p w ≡ record { pending = none; message = parse (openOf p) }
 closing-hears p w e = close-hears p w (is-close (actionOf p w) e)
 
-hear-long : (p : Pending) (w : ℕ) → length (p .chars) ≡ most → length (hear p w .pending .chars) ≡ most
+pub hear-long : (p : Pending) (w : ℕ) → length (p .chars) ≡ most → length (hear p w .pending .chars) ≡ most
 unfolding hear perform added none
 hear-long p w e = go (actionOf p w)
   where

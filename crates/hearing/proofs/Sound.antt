@@ -7,7 +7,7 @@ use Prim.Native.Nat.{ℕ, zero, suc, _+_, _<_, _≤_}
 use native.Mathlib.Numerals.{add-one}
 use native.Mathlib.Nat.{min-le-left}
 use native.Mathlib.Omega.{arith}
-use borrow.Author.Tests.{ltb-true, leb-true, le-leb, eqb-false, ne-eqb, lt-ltb}
+use borrow.Author.Tests.{ltb-true, leb-true, le-leb, eqb-true, eqb-false, ne-eqb, lt-ltb}
 use lib.Dec.{ltb, eqb, lit≤}
 use lib.ListN.{length, getD, set, take, drop, replicate, length-append, length-drop, length-take}
 use lib.Seq.{drop-set-lt, getD-set-other, take-append-seam, drop-append-seam}
@@ -62,6 +62,18 @@ every-plain : (cs : List ℕ) → every plainChar cs ≡ true → Plain cs
 unfolding every
 every-plain [] e = tt
 every-plain (c ∷ cs) e = (plain-back c (search ands), every-plain cs (search ands))
+
+small-places : (n : ℕ) (cs : List ℕ) → every plainChar (take n cs) ≡ true → every (λ (c : ℕ). eqb c 0) (drop n cs) ≡ true → (k : ℕ) → getD cs k 0 < 128
+unfolding every
+small-places n [] p z k = lit≤ tt
+small-places zero (c ∷ cs) p z zero = omega (arith, eqb-true c 0 (search ands))
+small-places zero (c ∷ cs) p z (suc k) = small-places zero cs p (search ands) k
+small-places (suc n) (c ∷ cs) p z zero = plain-back c (search ands) .small
+small-places (suc n) (c ∷ cs) p z (suc k) = small-places n cs (search ands) z k
+
+-- seven bits in each of its places, those behind the last character too
+pub place-small : (p : Pending) → soundPending p ≡ true → (k : ℕ) → getD (p .chars) k 0 < 128
+place-small p e k = let q = pending-parts p e in small-places (p .len) (p .chars) (q .is-plain) (q .is-zero) k
 
 -- what is open are seven-bit characters without `*`, at most ten
 pub open-plain : (p : Pending) → soundPending p ≡ true → Plain (openOf p)

@@ -19,6 +19,7 @@ use Rattle.demands.proofs.Causes.{causes}
 use Rattle.demands.proofs.Zeros.{zeros}
 use Rattle.demands.proofs.Pair.{one-pair, bus-demand-3}
 use Rattle.demands.proofs.Alone.{each-alone}
+use Rattle.demands.proofs.BusRows.{rows-keep}
 use Rattle.demands.proofs.Isolated.{isolated}
 
 demand-2 : Demand2
@@ -33,7 +34,7 @@ demand-2 = record {
 }
 
 bus : Bus
-bus = record { each-alone = each-alone; isolated = isolated; bus-demand-3 = bus-demand-3; one-pair = one-pair; not-empty = not-empty; bus-tables = bus-tables }
+bus = record { each-alone = each-alone; isolated = isolated; bus-demand-3 = bus-demand-3; one-pair = one-pair; rows-keep = rows-keep; not-empty = not-empty; bus-tables = bus-tables }
 
 all-hold : Demands
 all-hold = record {
