@@ -43,9 +43,9 @@ use Rattle.card.specs.Turn.{effectOf, turned, turn, stored}
 use Rattle.card.specs.Cause.{whyClosed, whyAfter, whyTo}
 use Rattle.card.specs.Refusals.{isRevision, soundScan, soundSetup, soundCard, offerable, soundOffer, cardChecks, stepChecks}
 use Rattle.card.specs.Calls.{stepCall, runCall}
-use Rattle.demands.specs.Terms.{Sound}
+use Rattle.demands.specs.Terms.{Sound, wroteThese}
 use Rattle.demands.specs.Causes.{sameWhy, isAmong, gaveCause, drawsIt, causeCases, everyCause, hasCase}
-use Rattle.demands.specs.Zeros.{zeroForms, wroteThese, isOwnForm}
+use Rattle.demands.specs.Zeros.{zeroForms, isOwnForm}
 use Rattle.demands.specs.Bench.{benchRows, benchValues, cardWith, Case, benchCases, twentyNeighbours, moreCases, firstCases, secondCases, scanCases, noReplies, timeRow, scanValues, equalZ, took, answersAll, passesOn, passes, passesScan, isNoReply}
 
 -- what a table computes through

@@ -1,16 +1,14 @@
 -- Document 02, ticket 5: "The digit reader must now tell minus zero from zero, and everything that reads numbers must say which it had". The
 -- claims are about the digits, about the two revisions of a card (`step` and `run`), and about demand 3, whose meaning is finer now.
 use mathlib.Core.Path.{_≡_}
-use mathlib.Core.Bool.{Bool, true, false, _&&_}
+use mathlib.Core.Bool.{Bool, true}
 use mathlib.Core.List.{List, [], _∷_, _++_, map}
 use Prim.Native.Nat.{ℕ, _≤_}
 use Prim.Native.String.{String}
-use lib.Dec.{eqb}
 use lib.IntN.{ℤ, pos}
 use lib.ListN.{length, take, replicate}
-use Rattle.refusal.specs.Lists.{every, same}
-use Rattle.refusal.specs.Refusal.{Outcome, refused, gave}
-use Rattle.refusal.specs.Call.{Call}
+use Rattle.refusal.specs.Lists.{every}
+use Rattle.refusal.specs.Refusal.{refused, gave}
 use Rattle.wire.specs.Text.{chars}
 use Rattle.wire.specs.Word.{travelling, validWords}
 use Rattle.number.specs.declared.Decimal.{Decimal}
@@ -38,7 +36,7 @@ use Rattle.card.specs.declared.Card.{Card}
 use Rattle.card.specs.Turn.{withBoth}
 use Rattle.card.specs.Calls.{After, revised, revisedAfter, kept, WordAnswer, stepCall, runCall}
 use Rattle.listing.specs.Line.{line}
-use Rattle.demands.specs.Terms.{Sound, replies}
+use Rattle.demands.specs.Terms.{Sound, replies, wroteThese}
 use Rattle.demands.specs.Demand3.{Wrote, PlayedAlike}
 
 -- ---- five digits, for every count of decimals at once
@@ -99,14 +97,6 @@ unfoldable pub zeroForms : List String
 zeroForms =
     "L7J#00000*" ∷ "L7J#00001*" ∷ "L7J#00002*" ∷ "L7J#00003*" ∷ "L7J#00005*" ∷ "L7J#00006*" ∷ "L7J#00007*" ∷ "L7J#00008*"
     ∷ "L7J#00006*L7JI*R12m#00000*" ∷ "L7J#00001*L7JI*R12m#00005*" ∷ []
-
--- the call gave the count of these words, and wrote them
-unfoldable pub wroteThese : List ℕ → Call → Bool
-wroteThese ws c = gaveCount (c .outcome) && same eqb (take (length ws) (c .buffer)) ws
-  where
-    gaveCount : Outcome ℕ → Bool
-    gaveCount (refused n) = false
-    gaveCount (gave n) = eqb n (length ws)
 
 -- a recording that is its own normal form
 unfoldable pub isOwnForm : String → Bool

@@ -20,7 +20,7 @@ use Rattle.message.specs.Prefix.{parse}
 use Rattle.message.specs.Spell.{spellAddress, spellBody, spell}
 use Rattle.message.proofs.Messages.{parts, PlainChar, Plain, plain-letter}
 use Rattle.message.proofs.Reading.{Heard-is, parse-spell, parse-message}
-use Rattle.message.proofs.Spelling.{plain-rest, open-first, open-length}
+use Rattle.message.proofs.Spelling.{plain-rest, open-first, star-last, open-length}
 use Rattle.hearing.specs.declared.Pending.{Pending}
 use Rattle.hearing.specs.declared.Action.{Action}
 use Rattle.hearing.specs.declared.Action.the-variants.{Ignore, Open, Add, Close, Drop}
@@ -104,9 +104,9 @@ pub record Leads (p : Pending) (ws : List ℕ) (q : Pending) (rest : List ℕ) :
 then : {p q r : Pending} {xs ys zs : List ℕ} → Leads p xs q ys → Leads q ys r zs → Leads p xs r zs
 then a b = record { hears = a .hears ∙ b .hears; opens = a .opens ∙ b .opens }
 
-unheard : (p : Pending) (w : ℕ) (ws : List ℕ) (q : Pending) → hear p w ≡ record { pending = q; message = Unheard } → Leads p (w ∷ ws) q ws
+pub leads-unheard : (p : Pending) (w : ℕ) (ws : List ℕ) (q : Pending) → hear p w ≡ record { pending = q; message = Unheard } → Leads p (w ∷ ws) q ws
 unfolding heardFrom openAfter before
-unheard p w ws q e = record {
+leads-unheard p w ws q e = record {
   hears = ap (λ (h : Hearing). before (h .message) (heardFrom (h .pending) ws)) e;
   opens = ap (λ (h : Hearing). openAfter (h .pending) ws) e;
 }
@@ -126,41 +126,57 @@ adds p cs (d ∷ ds) rest h o l q =
     record {
       last = a .last;
       holds = subst (OpenChars (a .last)) (append-assoc cs (d ∷ []) ds) (a .holds);
-      leads = then (unheard p (withParity d) (travelling ds ++ rest) (added p d) (hear-add p (omega arith) d (q .0))) (a .leads);
+      leads = then (leads-unheard p (withParity d) (travelling ds ++ rest) (added p d) (hear-add p (omega arith) d (q .0))) (a .leads);
     }
 
--- ---- a spelled message
+-- ---- a letter, characters behind it, and `*`
 
--- its words, the letter's and the star's apart
-words-of : (m : Message) (rest : List ℕ) → travelling (spell m) ++ rest ≡ withParity (m .letter) ∷ (travelling (spellAddress (m .address) ++ (m .identifier ∷ spellBody (m .body))) ++ (withParity star ∷ rest))
-unfolding spell travelling
-words-of m rest =
-    let cs = spellAddress (m .address) ++ (m .identifier ∷ spellBody (m .body)) in
-    ap (λ (l : List ℕ). travelling (l ++ (star ∷ [])) ++ rest) (open-first m)
-    ∙ ap (λ (l : List ℕ). withParity (m .letter) ∷ (l ++ rest)) (travelling-append cs (star ∷ []))
-    ∙ ap (λ (l : List ℕ). withParity (m .letter) ∷ l) (append-assoc (travelling cs) (withParity star ∷ []) rest)
+-- as they travel, the letter's word and the star's apart
+pub words-apart : (c : ℕ) (cs rest : List ℕ) → travelling ((c ∷ cs) ++ (star ∷ [])) ++ rest ≡ withParity c ∷ (travelling cs ++ (withParity star ∷ rest))
+unfolding travelling
+words-apart c cs rest =
+    ap (λ (l : List ℕ). withParity c ∷ (l ++ rest)) (travelling-append cs (star ∷ []))
+    ∙ ap (λ (l : List ℕ). withParity c ∷ l) (append-assoc (travelling cs) (withParity star ∷ []) rest)
 
--- the letter opens, the characters behind it are added, and the star closes
+-- the letter opens, the characters behind it are added, and the star closes: what they are read as is heard
+pub record HeardAs (c : ℕ) (cs rest : List ℕ) : Type 0 where
+  pub hears : heardFrom none (travelling ((c ∷ cs) ++ (star ∷ [])) ++ rest) ≡ before (parse (c ∷ cs)) (heardFrom none rest)
+  pub opens : openAfter none (travelling ((c ∷ cs) ++ (star ∷ [])) ++ rest) ≡ openAfter none rest
+
+pub heard-as : (c : ℕ) (cs rest : List ℕ) → isLetter c ≡ true → Plain cs → length (c ∷ cs) ≤ most → HeardAs c cs rest
+unfolding heardFrom openAfter
+heard-as c cs rest e p h =
+    let ends = withParity star ∷ rest in
+    let opened = leads-unheard none (withParity c) (travelling cs ++ ends) (added none c) (hear-open c e) in
+    let a = adds (added none c) (c ∷ []) cs ends (added-holds none [] c none-holds (lit< tt)) (omega arith) (omega arith) p in
+    let q = a .last in
+    let n : q .len ≡ length (c ∷ cs) = a .holds .len-is in
+    let l = then opened (a .leads) in
+    let s : hear q (withParity star) ≡ record { pending = none; message = parse (c ∷ cs) }
+    = hear-star q (omega arith) ∙ ap (λ (x : List ℕ). record { pending = none; message = parse x }) (a .holds .open-is) in
+    record {
+      hears = ap (heardFrom none) (words-apart c cs rest) ∙ l .hears ∙ ap (λ (h : Hearing). before (h .message) (heardFrom (h .pending) rest)) s;
+      opens = ap (openAfter none) (words-apart c cs rest) ∙ l .opens ∙ ap (λ (h : Hearing). openAfter (h .pending) rest) s;
+    }
+
+-- a message that is spelled is heard as itself
 pub record Spelled (m : Message) (rest : List ℕ) : Type 0 where
   pub hears : heardFrom none (travelling (spell m) ++ rest) ≡ m ∷ heardFrom none rest
   pub opens : openAfter none (travelling (spell m) ++ rest) ≡ openAfter none rest
 
 pub spelled : (m : Message) (rest : List ℕ) → isMessage m ≡ true → Spelled m rest
-unfolding heardFrom openAfter before
 spelled m rest e =
     let p = parts m e in
     let cs = spellAddress (m .address) ++ (m .identifier ∷ spellBody (m .body)) in
-    let ends = withParity star ∷ rest in
-    let opened = unheard none (withParity (m .letter)) (travelling cs ++ ends) (added none (m .letter)) (hear-open (m .letter) (p .is-letter)) in
-    let a = adds (added none (m .letter)) (m .letter ∷ []) cs ends (added-holds none [] (m .letter) none-holds (lit< tt)) (omega arith) (omega (arith, open-length m, ap length (open-first m))) (plain-rest m p) in
-    let q = a .last in
-    let n : q .len ≡ length (m .letter ∷ cs) = a .holds .len-is in
-    let l = then opened (a .leads) in
-    let s : hear q (withParity star) ≡ record { pending = none; message = Heard m }
-    = hear-star q (omega arith) ∙ ap (λ (x : Parsed). record { pending = none; message = x }) (ap parse (a .holds .open-is ∙ sym (open-first m)) ∙ parse-spell m e) in
+    let w : spell m ≡ (m .letter ∷ cs) ++ (star ∷ []) = star-last m ∙ ap (λ (l : List ℕ). l ++ (star ∷ [])) (open-first m) in
+    let h = heard-as (m .letter) cs rest (p .is-letter) (plain-rest m p) (omega (arith, open-length m, ap length (open-first m))) in
     record {
-      hears = ap (heardFrom none) (words-of m rest) ∙ l .hears ∙ ap (λ (h : Hearing). before (h .message) (heardFrom (h .pending) rest)) s;
-      opens = ap (openAfter none) (words-of m rest) ∙ l .opens ∙ ap (λ (h : Hearing). openAfter (h .pending) rest) s;
+      hears =
+          ap (λ (l : List ℕ). heardFrom none (travelling l ++ rest)) w
+          ∙ h .hears
+          ∙ ap (λ (x : Parsed). before x (heardFrom none rest)) (ap parse (sym (open-first m)) ∙ parse-spell m e)
+          ∙ before-heard m (heardFrom none rest);
+      opens = ap (λ (l : List ℕ). openAfter none (travelling l ++ rest)) w ∙ h .opens;
     }
 
 -- ---- what is heard is a message

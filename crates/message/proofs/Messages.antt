@@ -1,7 +1,7 @@
 -- What the parts of a message are: laws of the tests, for whoever has a message or makes one. Assumes nothing.
 use mathlib.Core.Path.{_≡_, refl, sym, ap, _∙_}
 use mathlib.Core.Bool.{true, false, false≢true}
-use mathlib.Core.List.{List, [], _∷_, _++_}
+use mathlib.Core.List.{List}
 use Prim.Native.Nat.{ℕ, _<_, _≤_}
 use Prim.Native.Char.{code}
 use native.Mathlib.Omega.{arith}
@@ -9,6 +9,7 @@ use borrow.Author.Tests.{leb-true, le-leb, lt-leb, eqb-true, ne-eqb}
 use lib.Dec.{eqb}
 use lib.IntN.{pos}
 use Rattle.refusal.proofs.Logic.{ands, and-both, not-is, is-not, or-cases}
+use Rattle.refusal.proofs.Lists.{Each}
 use Rattle.number.specs.declared.Numeral.{Numeral}
 use Rattle.number.specs.Data.{isDigit, withDecimals, asDecimal, numeral, minusZero, fitsNumeral}
 use Rattle.number.proofs.Digits.{digit-ends}
@@ -149,12 +150,7 @@ pub record PlainChar (c : ℕ) : Type 0 where
   pub no-star : eqb c star ≡ false
 
 abbrev pub Plain : List ℕ → Type 0
-Plain [] = Unit {0}
-Plain (c ∷ cs) = PlainChar c × Plain cs
-
-pub plain-append : (xs ys : List ℕ) → Plain xs → Plain ys → Plain (xs ++ ys)
-plain-append [] ys p q = q
-plain-append (x ∷ xs) ys p q = (p .0, plain-append xs ys (p .1) q)
+Plain cs = Each PlainChar cs
 
 plain-char : (c : ℕ) → c < 128 → (c ≡ 42 → ⊥) → PlainChar c
 plain-char c h f = record { small = h; no-star = ne-eqb c 42 f }

@@ -10,6 +10,7 @@ use borrow.Author.Tests.{leb-true, le-leb, lt-leb, lt-ltb}
 use lib.Dec.{leb, lit<, lit≤}
 use lib.ListN.{length, set, length-append}
 use Rattle.refusal.proofs.Logic.{choice, is-not}
+use Rattle.refusal.proofs.Lists.{Each, each-append, each-as}
 use Rattle.refusal.specs.Refusal.{gave}
 use Rattle.refusal.specs.Check.{refuseIf, first}
 use Rattle.refusal.specs.Call.{writes, refuses}
@@ -30,21 +31,23 @@ use Rattle.message.specs.declared.Kind.the-variants.{Sign, Data}
 use Rattle.message.specs.declared.Message.{Message}
 use Rattle.message.specs.Message.{star, isAddress, isMessage}
 use Rattle.message.specs.Spell.{spellAddress, kindOf, spellKind, spellBody, spellOpen, spell, writeCall}
-use Rattle.message.proofs.Messages.{Parts, Plain, plain-append, plain-letter, plain-digit, plain-identifier, address-most}
+use Rattle.message.proofs.Messages.{Parts, PlainChar, Plain, plain-letter, plain-digit, plain-identifier, address-most}
 
 -- ---- its characters
 
 pub plain-digits : (cs : List ℕ) → AllDigits cs → Plain cs
-plain-digits [] h = tt
-plain-digits (c ∷ cs) h = (plain-digit c (h .0), plain-digits cs (h .1))
+plain-digits cs h = each-as plain-digit cs h
+
+pub address-digits : (a : ℕ) → isAddress a ≡ true → AllDigits (spellAddress a)
+unfolding spellAddress
+address-digits a e =
+    let h = address-most a e in
+    choice AllDigits (leb a 9)
+    (λ t. (digit-is a (leb-true a 9 t), tt))
+    (λ t. (digit-is (a / 10) (omega arith), (digit-is (a % 10) (omega arith), tt)))
 
 pub plain-address : (a : ℕ) → isAddress a ≡ true → Plain (spellAddress a)
-unfolding spellAddress
-plain-address a e =
-    let h = address-most a e in
-    choice Plain (leb a 9)
-    (λ t. (plain-digit (digit a) (digit-is a (leb-true a 9 t)), tt))
-    (λ t. (plain-digit (digit (a / 10)) (digit-is (a / 10) (omega arith)), (plain-digit (digit (a % 10)) (digit-is (a % 10) (omega arith)), tt)))
+plain-address a e = plain-digits (spellAddress a) (address-digits a e)
 
 plain-body : (b : Body) → Plain (spellBody b)
 unfolding kindOf spellKind
@@ -58,32 +61,31 @@ plain-body Store = (record { small = lit< tt; no-star = refl }, tt)
 -- behind the letter
 pub plain-rest : (m : Message) → Parts m → Plain (spellAddress (m .address) ++ (m .identifier ∷ spellBody (m .body)))
 plain-rest m p =
-    plain-append (spellAddress (m .address)) (m .identifier ∷ spellBody (m .body)) (plain-address (m .address) (p .is-address))
+    each-append PlainChar (spellAddress (m .address)) (m .identifier ∷ spellBody (m .body)) (plain-address (m .address) (p .is-address))
     (plain-identifier (m .identifier) (p .is-identifier), plain-body (m .body))
 
 -- all of them, with the letter and the `*`, are of seven bits
 abbrev pub Small : List ℕ → Type 0
-Small [] = Unit {0}
-Small (c ∷ cs) = (c < 128) × Small cs
-
-pub small-append : (xs ys : List ℕ) → Small xs → Small ys → Small (xs ++ ys)
-small-append [] ys p q = q
-small-append (x ∷ xs) ys p q = (p .0, small-append xs ys (p .1) q)
+Small cs = Each (λ (c : ℕ). c < 128) cs
 
 pub plain-small : (cs : List ℕ) → Plain cs → Small cs
-plain-small [] h = tt
-plain-small (c ∷ cs) h = (h .0 .small, plain-small cs (h .1))
+plain-small cs h = each-as (λ c p. p .small) cs h
 
 pub spell-small : (m : Message) → Parts m → Small (spell m)
 unfolding spell spellOpen
 spell-small m p =
-    small-append (m .letter ∷ (spellAddress (m .address) ++ (m .identifier ∷ spellBody (m .body)))) (star ∷ [])
+    each-append _ (m .letter ∷ (spellAddress (m .address) ++ (m .identifier ∷ spellBody (m .body)))) (star ∷ [])
     (plain-letter (m .letter) (p .is-letter) .small, plain-small (spellAddress (m .address) ++ (m .identifier ∷ spellBody (m .body))) (plain-rest m p)) (lit< tt, tt)
 
 -- the letter stands first
 pub open-first : (m : Message) → spellOpen m ≡ m .letter ∷ (spellAddress (m .address) ++ (m .identifier ∷ spellBody (m .body)))
 unfolding spellOpen
 open-first m = refl
+
+-- and the `*` last
+pub star-last : (m : Message) → spell m ≡ spellOpen m ++ (star ∷ [])
+unfolding spell
+star-last m = refl
 
 -- ---- its length, whatever it is
 

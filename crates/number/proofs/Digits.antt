@@ -3,7 +3,7 @@
 -- before the last four digits and the last of the code isn't written. Assumes nothing.
 use mathlib.Core.Path.{_≡_, refl}
 use mathlib.Core.Bool.{true}
-use mathlib.Core.List.{List, [], _∷_}
+use mathlib.Core.List.{List}
 use Prim.Native.Nat.{ℕ, _+_, _/_, _%_, _≤_}
 use native.Mathlib.Omega.{arith}
 use borrow.Author.Tests.{leb-true, le-leb}
@@ -11,6 +11,7 @@ use lib.Dec.{leb}
 use lib.IntN.{ℤ, pos, negsuc}
 use lib.ListN.{length, set}
 use Rattle.refusal.proofs.Logic.{and-left, and-right, and-both}
+use Rattle.refusal.proofs.Lists.{Each}
 use Rattle.number.specs.declared.Decimal.{Decimal}
 use Rattle.number.specs.declared.Numeral.{Numeral}
 use Rattle.number.specs.Data.{digit, isDigit, digitOf, codeOf, fiveDigits, spellData, spellNumeral}
@@ -48,8 +49,7 @@ code-below (negsuc n) d = omega arith
 
 -- each character is a digit
 abbrev pub AllDigits : List ℕ → Type 0
-AllDigits [] = Unit {0}
-AllDigits (c ∷ cs) = (isDigit c ≡ true) × AllDigits cs
+AllDigits cs = Each (λ (c : ℕ). isDigit c ≡ true) cs
 
 last-digit : (n : ℕ) → isDigit (digit (n % 10)) ≡ true
 last-digit n = digit-is (n % 10) (omega arith)

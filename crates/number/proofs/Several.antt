@@ -1,4 +1,4 @@
--- Several numbers written one behind the other, however many: five digits for each, read back number by number, and two lists of numbers
+-- Several numbers written one behind the other, however many: five digits for each and nothing else, read back number by number, and two lists of numbers
 -- that are written alike are the same. Assumes nothing.
 use mathlib.Core.Path.{_≡_, refl, sym, ap, ap₂, _∙_}
 use mathlib.Core.Bool.{true}
@@ -10,10 +10,11 @@ use lib.ListN.{length, getD, take, drop, length-append}
 use lib.Seq.{take-append-seam, drop-append-seam, drop-append-add}
 use Rattle.refusal.specs.Lists.{every}
 use Rattle.refusal.proofs.Logic.{and-left, and-right}
+use Rattle.refusal.proofs.Lists.{each-append}
 use Rattle.number.specs.declared.Decimal.{Decimal}
 use Rattle.number.specs.Data.{withDecimals, fits, numeral, spellData, readData, spellAll}
 use Rattle.number.specs.declared.Data.the-variants.{Number}
-use Rattle.number.proofs.Digits.{data-length}
+use Rattle.number.proofs.Digits.{AllDigits, data-digits, data-length}
 use Rattle.number.proofs.Reading.{read-number, spell-injective}
 
 pub all-length : (xs : List Decimal) → length (spellAll xs) ≡ 5 * length xs
@@ -24,6 +25,11 @@ all-length (x ∷ xs) =
     let d = data-length x in
     let l = length-append (spellData x) (spellAll xs) in
     omega arith
+
+pub all-digits : (xs : List Decimal) → AllDigits (spellAll xs)
+unfolding spellAll
+all-digits [] = tt
+all-digits (x ∷ xs) = each-append _ (spellData x) (spellAll xs) (data-digits x) (all-digits xs)
 
 -- the first five characters, and what stands behind them
 pub first-data : (x : Decimal) (cs : List ℕ) → (take 5 (spellData x ++ cs) ≡ spellData x) × (drop 5 (spellData x ++ cs) ≡ cs)

@@ -15,6 +15,20 @@ pub append-cancel : {A : Type 0} (us : List A) {xs ys : List A} → us ++ xs ≡
 append-cancel [] e = e
 append-cancel (u ∷ us) e = append-cancel us (tail-eq-of-cons-eq e)
 
+-- ---- a statement of each
+
+abbrev pub Each : {A : Type 0} → (A → Type 0) → List A → Type 0
+Each P [] = Unit {0}
+Each P (x ∷ xs) = P x × Each P xs
+
+pub each-append : {A : Type 0} (P : A → Type 0) (xs ys : List A) → Each P xs → Each P ys → Each P (xs ++ ys)
+each-append P [] ys p q = q
+each-append P (x ∷ xs) ys p q = (p .0, each-append P xs ys (p .1) q)
+
+pub each-as : {A : Type 0} {P Q : A → Type 0} → ((x : A) → P x → Q x) → (xs : List A) → Each P xs → Each Q xs
+each-as f [] h = tt
+each-as f (x ∷ xs) h = (f x (h .0), each-as f xs (h .1))
+
 module _ {A : Type 0} (f : A → Bool) where
   -- ---- a test of each
 
@@ -26,10 +40,13 @@ module _ {A : Type 0} (f : A → Bool) where
   unfolding every
   every-first x xs p q = and-both p q
 
-  pub every-append : (xs ys : List A) → every f xs ≡ true → every f ys ≡ true → every f (xs ++ ys) ≡ true
+  pub every-both : (xs ys : List A) → every f (xs ++ ys) ≡ every f xs && every f ys
   unfolding every
-  every-append [] ys p q = q
-  every-append (x ∷ xs) ys p q = and-both (and-left (f x) (every f xs) p) (every-append xs ys (and-right (f x) (every f xs) p) q)
+  every-both [] ys = refl
+  every-both (x ∷ xs) ys = ap (λ (b : Bool). f x && b) (every-both xs ys) ∙ sym (and-assoc (f x) (every f xs) (every f ys))
+
+  pub every-append : (xs ys : List A) → every f xs ≡ true → every f ys ≡ true → every f (xs ++ ys) ≡ true
+  every-append xs ys p q = every-both xs ys ∙ and-both p q
 
   -- one more of the first, and one less of the rest
   pub every-set : (xs : List A) (n : ℕ) (x : A) → every f (take n xs) ≡ true → f x ≡ true → every f (take (suc n) (set xs n x)) ≡ true

@@ -16,7 +16,7 @@ use Rattle.refusal.specs.Lists.{every, same}
 use Rattle.refusal.specs.Refusal.{refused, gave}
 use Rattle.refusal.specs.Check.{refuseIf, first, decided}
 use Rattle.refusal.specs.declared.Refusal.the-variants.{NotReply}
-use Rattle.refusal.proofs.Lists.{same-is, is-same}
+use Rattle.refusal.proofs.Lists.{same-is, is-same, each-append}
 use Rattle.refusal.proofs.Checks.{refused-gave, first-holds, first-passes, first-none}
 use Rattle.refusal.proofs.Logic.{ands, and-both, and-left, and-right, not-is, is-not, by-test, choice}
 use Rattle.wire.specs.Word.{travelling}
@@ -33,7 +33,7 @@ use Rattle.message.specs.Message.{star, question, isLetter, isAddress, isIdenti
 use Rattle.message.specs.Spell.{spellAddress}
 use Rattle.message.proofs.Messages.{address-most, identifier-no-digit}
 use Rattle.message.proofs.Places.{five-are}
-use Rattle.message.proofs.Spelling.{Small, small-append, plain-small}
+use Rattle.message.proofs.Spelling.{Small, plain-small}
 use Rattle.reply.specs.declared.Mark.{Mark}
 use Rattle.reply.specs.declared.Mark.the-variants as mark
 use Rattle.reply.specs.declared.Content.{Content}
@@ -143,7 +143,7 @@ characters-back (c ∷ cs) h = ap₂ (λ (x : ℕ) (xs : List ℕ). x ∷ xs) (w
 pub answer-small : (a : Answer) → AnswerParts a → Small (spellAnswer a)
 answer-small a p =
     rw (star-ends a)
-    (small-append (beforeStar a) (star ∷ []) (plain-small (beforeStar a) (before-plain a (p .is-letter) (p .is-address) (p .is-identifier))) (lit< tt, tt))
+    (each-append _ (beforeStar a) (star ∷ []) (plain-small (beforeStar a) (before-plain a (p .is-letter) (p .is-address) (p .is-identifier))) (lit< tt, tt))
 
 -- ---- the guess at what is spelled
 

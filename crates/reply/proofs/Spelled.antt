@@ -15,17 +15,18 @@ use Rattle.refusal.specs.declared.Refusal.{Refusal}
 use Rattle.refusal.specs.declared.Written.{Written}
 use Rattle.refusal.specs.declared.Written.the-variants.{Wrote, Refused}
 use Rattle.refusal.proofs.Buffers.{placed-nothing, placed-both, placed-length, placed-front, laid-front, placed-ahead}
+use Rattle.refusal.proofs.Lists.{each-append}
 use Rattle.refusal.proofs.Checks.{refused-gave}
 use Rattle.refusal.proofs.Calls.{placed-call, fits-at}
 use Rattle.wire.specs.Word.{travelling}
 use Rattle.wire.proofs.Words.{travelling-append, travelling-length}
 use Rattle.number.specs.declared.Decimal.{Decimal}
 use Rattle.number.specs.Data.{digit, spellData, spellAll}
-use Rattle.number.proofs.Digits.{digit-is, data-length, data-digits}
-use Rattle.number.proofs.Several.{all-length}
+use Rattle.number.proofs.Digits.{digit-is, AllDigits, data-length, data-digits}
+use Rattle.number.proofs.Several.{all-length, all-digits}
 use Rattle.message.specs.Message.{star, isLetter, isAddress, isIdentifier}
 use Rattle.message.specs.Spell.{spellAddress}
-use Rattle.message.proofs.Messages.{PlainChar, Plain, plain-append, plain-letter, plain-digit, plain-identifier}
+use Rattle.message.proofs.Messages.{PlainChar, Plain, plain-letter, plain-identifier}
 use Rattle.message.proofs.Spelling.{plain-digits, plain-address, address-length}
 use Rattle.reply.specs.declared.Mark.{Mark}
 use Rattle.reply.specs.declared.Mark.the-variants as mark
@@ -106,24 +107,16 @@ answer-some a = omega arith
 
 -- ---- its characters
 
-data-plain : (x : Decimal) → Plain (spellData x)
-data-plain x = plain-digits (spellData x) (data-digits x)
-
-all-plain : (xs : List Decimal) → Plain (spellAll xs)
-unfolding spellAll
-all-plain [] = tt
-all-plain (x ∷ xs) = plain-append (spellData x) (spellAll xs) (data-plain x) (all-plain xs)
-
 -- how many digits there are, and the digits
-scan-plain : (c d : ℕ) (xs : List Decimal) → c ≤ 9 → d ≤ 9 → Plain (digit c ∷ digit d ∷ spellAll xs)
-scan-plain c d xs p q = (plain-digit (digit c) (digit-is c p), (plain-digit (digit d) (digit-is d q), all-plain xs))
+scan-digits : (c d : ℕ) (xs : List Decimal) → c ≤ 9 → d ≤ 9 → AllDigits (digit c ∷ digit d ∷ spellAll xs)
+scan-digits c d xs p q = (digit-is c p, (digit-is d q, all-digits xs))
 
-content-plain : (x : Content) → Plain (spellContent x)
+pub content-digits : (x : Content) → AllDigits (spellContent x)
 unfolding spellContent spellScan
-content-plain Empty = tt
-content-plain (Number x) = data-plain x
-content-plain (Four a b c d) = scan-plain 2 0 (a ∷ b ∷ c ∷ d ∷ []) (lit≤ tt) (lit≤ tt)
-content-plain (Five a b c d e) = scan-plain 2 5 (a ∷ b ∷ c ∷ d ∷ e ∷ []) (lit≤ tt) (lit≤ tt)
+content-digits Empty = tt
+content-digits (Number x) = data-digits x
+content-digits (Four a b c d) = scan-digits 2 0 (a ∷ b ∷ c ∷ d ∷ []) (lit≤ tt) (lit≤ tt)
+content-digits (Five a b c d e) = scan-digits 2 5 (a ∷ b ∷ c ∷ d ∷ e ∷ []) (lit≤ tt) (lit≤ tt)
 
 pub mark-plain : (k : Mark) → PlainChar (markOf k)
 mark-plain mark.Accepted = record { small = lit< tt; no-star = refl }
@@ -142,8 +135,8 @@ pub before-plain : (a : Answer) → isLetter (a .letter) ≡ true → isAddress 
 unfolding beforeStar
 before-plain a l d i = (
   plain-letter (a .letter) l,
-  plain-append (spellAddress (a .address)) (a .identifier ∷ (spellContent (a .content) ++ (markOf (a .mark) ∷ []))) (plain-address (a .address) d)
-      (plain-identifier (a .identifier) i, plain-append (spellContent (a .content)) (markOf (a .mark) ∷ []) (content-plain (a .content)) (mark-plain (a .mark), tt)),
+  each-append PlainChar (spellAddress (a .address)) (a .identifier ∷ (spellContent (a .content) ++ (markOf (a .mark) ∷ []))) (plain-address (a .address) d)
+      (plain-identifier (a .identifier) i, each-append PlainChar (spellContent (a .content)) (markOf (a .mark) ∷ []) (plain-digits (spellContent (a .content)) (content-digits (a .content))) (mark-plain (a .mark), tt)),
 )
 
 -- ---- part by part into a buffer

@@ -10,6 +10,7 @@ use lib.ListN.{length, take, length-append}
 use lib.Seq.{take-append-seam}
 use Rattle.refusal.specs.Refusal.{refused, gave}
 use Rattle.refusal.proofs.Logic.{by-test}
+use Rattle.refusal.proofs.Lists.{each-append}
 use Rattle.wire.specs.Word.{travelling}
 use Rattle.number.specs.declared.Decimal.{Decimal}
 use Rattle.number.specs.declared.Numeral.{Numeral}
@@ -21,7 +22,7 @@ use Rattle.number.proofs.Several.{all-length, first-data}
 use Rattle.message.specs.Message.{star, isLetter, isAddress, isIdentifier}
 use Rattle.message.specs.Spell.{spellAddress}
 use Rattle.message.proofs.Messages.{plain-letter, plain-identifier, address-most, identifier-no-digit}
-use Rattle.message.proofs.Spelling.{Small, small-append, plain-small, plain-digits, plain-address}
+use Rattle.message.proofs.Spelling.{Small, plain-small, plain-digits, plain-address}
 use Rattle.reply.specs.declared.Mark.{Mark}
 use Rattle.reply.specs.declared.Content.{Content}
 use Rattle.reply.specs.declared.Content.the-variants.{Empty, Number, Four, Five}
@@ -85,8 +86,8 @@ module _ (l a i : ℕ) (x : Numeral) (k : Mark) (p : isLetter l ≡ true) (q : i
   small : Small (withMinusZero l a i x k)
   small = (
     plain-letter l p .small,
-    small-append (spellAddress a) (i ∷ (spellNumeral x ++ (markOf k ∷ star ∷ []))) (plain-small (spellAddress a) (plain-address a q))
-        (plain-identifier i r .small, small-append (spellNumeral x) (markOf k ∷ star ∷ []) (plain-small (spellNumeral x) (plain-digits (spellNumeral x) (numeral-digits x))) (mark-plain k .small, (lit< tt, tt))),
+    each-append _ (spellAddress a) (i ∷ (spellNumeral x ++ (markOf k ∷ star ∷ []))) (plain-small (spellAddress a) (plain-address a q))
+        (plain-identifier i r .small, each-append _ (spellNumeral x) (markOf k ∷ star ∷ []) (plain-small (spellNumeral x) (plain-digits (spellNumeral x) (numeral-digits x))) (mark-plain k .small, (lit< tt, tt))),
   )
 
   no-answer : (b : Answer) → readCall (travelling (withMinusZero l a i x k)) ≡ gave b → ⊥

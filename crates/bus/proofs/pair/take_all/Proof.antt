@@ -1,7 +1,7 @@
 -- `bus::take_all` meets its contract, by the invariant of its loop (`Loop`). Assumes nothing.
 mod Loop
 use mathlib.Core.Path.{_≡_, refl, sym, ap, ap₂, _∙_, subst}
-use mathlib.Core.List.{List, []}
+use mathlib.Core.List.{List}
 use Prim.Native.Nat.{ℕ, _+_, _-_, _≤_}
 use native.Mathlib.Omega.{arith}
 use borrow.Author.Needs.{needs}
