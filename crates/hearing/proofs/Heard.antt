@@ -96,6 +96,19 @@ pub before-unheard : (ms : List Message) → before Unheard ms ≡ ms
 unfolding before
 before-unheard ms = refl
 
+-- what is heard in two recordings, one behind the other
+before-both : (o : Parsed) (ms ns : List Message) → before o (ms ++ ns) ≡ before o ms ++ ns
+unfolding before
+before-both (Heard m) ms ns = refl
+before-both Unheard ms ns = refl
+
+pub heard-both : (p : Pending) (xs ys : List ℕ) → heardFrom p (xs ++ ys) ≡ heardFrom p xs ++ heardFrom (openAfter p xs) ys
+unfolding heardFrom openAfter
+heard-both p [] ys = refl
+heard-both p (x ∷ xs) ys =
+    let h = hear p x in
+    ap (before (h .message)) (heard-both (h .pending) xs ys) ∙ before-both (h .message) (heardFrom (h .pending) xs) (heardFrom (openAfter (h .pending) xs) ys)
+
 -- after some words the messages heard and the message open are those from q on
 pub record Leads (p : Pending) (ws : List ℕ) (q : Pending) (rest : List ℕ) : Type 0 where
   pub hears : heardFrom p ws ≡ heardFrom q rest

@@ -5,4 +5,5 @@ pub mod Sound
 pub mod Normal
 pub mod Quiet
 pub mod Loops
+pub mod Shortest
 pub mod Unopened

@@ -2,30 +2,23 @@
 -- whole. Assumes nothing.
 use mathlib.Core.Path.{_≡_, refl, sym, ap, _∙_, subst}
 use mathlib.Core.Bool.{true, false}
-use mathlib.Core.List.{List, [], _∷_, _++_}
+use mathlib.Core.List.{List, [], _++_}
 use Prim.Native.Nat.{ℕ, suc, _+_, _-_, _<_, _≤_}
-use native.Mathlib.Nat.{min-le-left}
 use native.Mathlib.Numerals.{add-one}
 use native.Mathlib.Omega.{arith}
 use borrow.Author.Tests.{le-leb, lt-leb}
-use lib.Dec.{leb, ltb}
-use lib.ListN.{length, getD, drop, length-append, drop-of-length-le, length-take}
+use lib.Dec.{leb}
+use lib.ListN.{length, getD, drop, length-append, drop-of-length-le}
 use lib.Seq.{drop-cons}
 use Rattle.refusal.specs.Buffer.{laid, placed}
-use Rattle.refusal.proofs.Logic.{choice}
 use Rattle.refusal.proofs.Buffers.{Filling, fill-begins, fill-goes-on, fill-laid}
-use Rattle.wire.proofs.Words.{travelling-length}
 use Rattle.message.specs.declared.Message.{Message}
 use Rattle.message.specs.declared.Parsed.{Parsed}
 use Rattle.message.specs.declared.Parsed.the-variants.{Heard, Unheard}
 use Rattle.message.specs.Prefix.{parse}
-use Rattle.message.specs.Spell.{spell}
-use Rattle.message.proofs.Short.{spelled-short}
 use Rattle.hearing.specs.declared.Pending.{Pending}
-use Rattle.hearing.specs.declared.Action.{Action}
-use Rattle.hearing.specs.declared.Action.the-variants.{Ignore, Open, Add, Close, Drop}
 use Rattle.hearing.specs.declared.passes.Closing.{Closing}
-use Rattle.hearing.specs.Hearing.{most, none, added, openOf, actionOf, perform, hear, before, heardFrom, heard}
+use Rattle.hearing.specs.Hearing.{none, openOf, hear, before, heardFrom, heard}
 use Rattle.hearing.specs.Normal.{wordsOf, normal}
 use Rattle.hearing.specs.Inner.{toClose, nextClosed, worth}
 use Rattle.hearing.proofs.Close.{reached, reached-in, reached-hears}
@@ -34,7 +27,7 @@ use Rattle.hearing.proofs.Close.{reached, reached-in, reached-hears}
 unfoldable pub normalFrom : Pending → List ℕ → List ℕ
 normalFrom p ws = wordsOf (heardFrom p ws)
 
-words-before : (o : Parsed) (ms : List Message) → wordsOf (before o ms) ≡ worth o ++ wordsOf ms
+pub words-before : (o : Parsed) (ms : List Message) → wordsOf (before o ms) ≡ worth o ++ wordsOf ms
 unfolding wordsOf before worth
 words-before (Heard m) ms = refl
 words-before Unheard ms = refl
@@ -79,38 +72,6 @@ module _ (ws : List ℕ) (i : ℕ) where
   pub closed-behind : i ≤ length ws → i ≤ nextClosed ws i .at
   unfolding nextClosed
   closed-behind h = reached-in ws none i h .0
-
--- ---- the normal form is not longer than the words
-
-worth-short : (cs : List ℕ) → length (worth (parse cs)) ≤ length cs + 1
-worth-short cs = go (parse cs) refl
-  where
-    go : (o : Parsed) → parse cs ≡ o → length (worth o) ≤ length cs + 1
-    go (Heard m) e = unfold worth in omega (arith, travelling-length (spell m), spelled-short cs m e)
-    go Unheard e = unfold worth in omega arith
-
-open-short : (p : Pending) → length (openOf p) ≤ p .len
-unfolding openOf
-open-short p = subst (λ (n : ℕ). n ≤ p .len) (sym (length-take (p .len) (p .chars))) (min-le-left (p .len) (length (p .chars)))
-
--- what a word leaves open and what it closes are together longer by one at most
-perform-short : (p : Pending) (a : Action) → perform p a .pending .len + length (worth (perform p a .message)) ≤ p .len + 1
-unfolding perform added none worth
-perform-short p Ignore = omega arith
-perform-short p (Open c) = omega arith
-perform-short p (Add c) = choice (λ (q : Pending). q .len + 0 ≤ p .len + 1) (ltb (p .len) most) (λ t. omega arith) (λ t. omega arith)
-perform-short p Close = omega (arith, worth-short (openOf p), open-short p)
-perform-short p Drop = omega arith
-
-normal-length : (p : Pending) (ws : List ℕ) → length (normalFrom p ws) ≤ p .len + length ws
-unfolding normalFrom heardFrom hear
-normal-length p [] = unfold wordsOf in omega arith
-normal-length p (w ∷ ws) =
-    let h = perform p (actionOf p w) in
-    omega (arith, ap length (words-before (h .message) (heardFrom (h .pending) ws)), length-append (worth (h .message)) (wordsOf (heardFrom (h .pending) ws)), perform-short p (actionOf p w), normal-length (h .pending) ws)
-
-pub normal-short : (ws : List ℕ) → length (normal ws) ≤ length ws
-normal-short ws = unfold none in omega (arith, ap length (normal-whole ws), normal-length none ws)
 
 -- ---- the counting pass
 

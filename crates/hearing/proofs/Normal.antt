@@ -1,6 +1,6 @@
 -- The normal form: it is heard as its recording, it is its own normal form, it is a recording, and it tells recordings apart exactly by
 -- what is heard in them. Each for whole lists of words, whatever the words. Assumes nothing.
-use mathlib.Core.Path.{_≡_, refl, sym, ap, _∙_}
+use mathlib.Core.Path.{_≡_, refl, sym, ap, ap₂, _∙_}
 use mathlib.Core.Logic.{_↔_}
 use mathlib.Core.Bool.{Bool, true, false, not}
 use mathlib.Core.List.{List, [], _∷_, _++_, append-nil}
@@ -38,7 +38,16 @@ unfolding wordsOf openAfter
 open-words [] h = refl
 open-words (m ∷ ms) h = spelled m (wordsOf ms) (h .0) .opens ∙ open-words ms (h .1)
 
+-- of one message, as the writer spells it
+pub one-message : (m : Message) → wordsOf (m ∷ []) ≡ travelling (spell m)
+unfolding wordsOf
+one-message m = append-nil (travelling (spell m))
+
 -- ---- the normal form
+
+pub normal-words : (ws : List ℕ) → normal ws ≡ wordsOf (heard ws)
+unfolding normal
+normal-words ws = refl
 
 pub heard-normal : (ws : List ℕ) → heard (normal ws) ≡ heard ws
 unfolding normal heard
@@ -116,6 +125,11 @@ module _ (ws out : List ℕ) where
 
   pub normal-written : (n : ℕ) → normalCall ws out .outcome ≡ gave n → take n (normalCall ws out .buffer) ≡ normal ws
   normal-written n e = wrote-normal n e .front
+
+-- two recordings that are valid alike and heard alike
+pub normal-alike : (a b out : List ℕ) → validWords a ≡ validWords b → heard a ≡ heard b → normalCall a out ≡ normalCall b out
+unfolding normalCall normal
+normal-alike a b out v h = ap₂ (λ (x : Bool) (ms : List Message). writes (refuseIf (not x) WordAbove256 ∷ []) (wordsOf ms) out) v h
 
 -- ---- the writer
 

@@ -168,3 +168,21 @@ plain-digit c e = let h = digit-ends c e in plain-char c (omega arith) (λ s. om
 pub plain-identifier : (c : ℕ) → isIdentifier c ≡ true → PlainChar c
 unfolding isIdentifier
 plain-identifier c e = record { small = omega (arith, leb-true c 126 (search ands)); no-star = not-is {a = eqb c star} (search ands) }
+
+-- ---- of these, characters that open no message: no letter
+
+pub record UnopeningChar (c : ℕ) : Type 0 where
+  pub is-plain : PlainChar c
+  pub no-letter : isLetter c ≡ false
+
+abbrev pub Unopening : List ℕ → Type 0
+Unopening cs = Each UnopeningChar cs
+
+pub no-letter-is : (c : ℕ) → (c ≡ code "L" → ⊥) → (c ≡ code "R" → ⊥) → isLetter c ≡ false
+unfolding isLetter
+no-letter-is c f g = rw (ne-eqb c (code "L") f, ne-eqb c (code "R") g)
+
+pub unopening-digit : (c : ℕ) → isDigit c ≡ true → UnopeningChar c
+unopening-digit c e =
+    let h = digit-ends c e in
+    record { is-plain = plain-digit c e; no-letter = no-letter-is c (λ s. omega arith) (λ s. omega arith) }

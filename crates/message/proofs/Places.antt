@@ -1,13 +1,14 @@
 -- Where the parts of a message stand. The recogniser goes on from the next character to the rest; what is wrong stays wrong, a
--- whole message has nothing behind it, and only five characters are data. Assumes nothing.
+-- whole message has nothing behind it, no body begins with a digit, and only five characters are data. Assumes nothing.
 use mathlib.Core.Path.{_≡_, refl, sym, ap, _∙_}
+use mathlib.Core.Logic.{_⊎_}
 use mathlib.Core.Bool.{true, false, not, _&&_, false≢true}
-use mathlib.Core.List.{List, [], _∷_}
+use mathlib.Core.List.{List, [], _∷_, _++_}
 use Prim.Native.Nat.{ℕ, _+_, _-_, _*_, _<_, _≤_}
 use Prim.Native.Char.{code}
 use native.Mathlib.Numerals.{add-one}
 use native.Mathlib.Omega.{arith}
-use borrow.Author.Tests.{eqb-true}
+use borrow.Author.Tests.{eqb-true, ne-eqb}
 use lib.Dec.{eqb}
 use lib.ListN.{length, getD, take, drop, length-drop, drop-of-length-le}
 use lib.Seq.{drop-cons, take-all}
@@ -16,6 +17,7 @@ use Rattle.number.specs.declared.Data.{Data}
 use Rattle.number.specs.declared.Data.the-variants.{Partial, Number, Invalid}
 use Rattle.number.specs.Data.{isDigit, digitOf, start, readData}
 use Rattle.number.specs.declared.Numeral.{Numeral}
+use Rattle.number.proofs.Digits.{digit-ends}
 use Rattle.number.proofs.Reading.{read-length}
 use Rattle.message.specs.declared.Message.{Message}
 use Rattle.message.specs.declared.Parsed.{Parsed}
@@ -24,8 +26,9 @@ use Rattle.message.specs.declared.Prefix.{Prefix}
 use Rattle.message.specs.declared.Prefix.the-variants.{Start, Digit, Address, Identifier, Complete, Wrong}
 use Rattle.message.specs.Message.{question, isLetter, isAddress, isIdentifier}
 use Rattle.message.specs.Prefix.{extendIdentifier, extendAddress, extendData, extendBody, extend, extendAll, finish, parse}
-use Rattle.message.proofs.Messages.{identifier-no-digit}
-use Rattle.message.proofs.Reading.{all-data, extend-hash}
+use Rattle.message.specs.Spell.{spellAddress}
+use Rattle.message.proofs.Messages.{Unopening, identifier-no-digit}
+use Rattle.message.proofs.Reading.{all-front, all-data, extend-hash}
 
 -- ---- the characters from an index on
 
@@ -148,6 +151,27 @@ no-more l a i c cs h e =
     behind : (m : Message) → leads (Complete m) cs ≡ Unheard
     behind m = nothing-behind m cs h
 
+-- no body begins with a digit
+pub digit-wrong : (l a i c : ℕ) → isDigit c ≡ true → extend (Identifier l a i) c ≡ Wrong
+unfolding extend extendBody
+digit-wrong l a i c e =
+    rw (other question (λ p q r. omega arith), other (code "+") (λ p q r. omega arith), other (code "-") (λ p q r. omega arith), other (code "I") (λ p q r. omega arith), other (code "#") (λ p q r. omega arith))
+    (by-test (eqb i question) (λ t. rw t) (λ t. rw t))
+  where
+    other : (d : ℕ) → (48 ≤ c → c ≤ 57 → c ≡ d → ⊥) → eqb c d ≡ false
+    other d f = ne-eqb c d (f (digit-ends c e .0) (digit-ends c e .1))
+
+-- nor, behind `?`, with anything but `?`
+pub status-wrong : (l a i c : ℕ) → eqb i question ≡ true → eqb c question ≡ false → extend (Identifier l a i) c ≡ Wrong
+unfolding extend extendBody
+status-wrong l a i c p q = rw (p, q)
+
+-- behind letter, address and identifier stands a character with which no body begins
+pub wrong-body : (l a i c : ℕ) (cs : List ℕ) → isLetter l ≡ true → isAddress a ≡ true → isIdentifier i ≡ true → extend (Identifier l a i) c ≡ Wrong
+    → parse (l ∷ (spellAddress a ++ (i ∷ c ∷ cs))) ≡ Unheard
+unfolding parse extendAll
+wrong-body l a i c cs p q r e = ap finish (all-front l a i (c ∷ cs) p q r ∙ ap (λ (s : Prefix). extendAll s cs) e) ∙ wrong-stays cs
+
 -- behind `#` stands data
 pub behind-hash : (l a i : ℕ) (cs : List ℕ) → eqb i question ≡ false → leads (extend (Identifier l a i) (code "#")) cs ≡ finish (extendData l a i (readData cs))
 unfolding readData
@@ -222,3 +246,7 @@ wrong-count (l ∷ d ∷ cs) f =
 
 pub too-short : (cs : List ℕ) → length cs < 4 → parse cs ≡ Unheard
 too-short cs h = wrong-count cs (λ a b. omega arith)
+
+-- characters behind a letter that are no message: read as none, or too many for one and no letter among them
+abbrev pub NoMessage : ℕ → List ℕ → Type 0
+NoMessage c cs = ((length (c ∷ cs) ≤ 10) × (parse (c ∷ cs) ≡ Unheard)) ⊎ ((10 ≤ length cs) × Unopening cs)

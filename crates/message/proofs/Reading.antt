@@ -14,7 +14,7 @@ use Rattle.number.specs.declared.Data.{Data}
 use Rattle.number.specs.declared.Data.the-variants.{Partial, Number, Invalid}
 use Rattle.number.specs.Data.{digit, isDigit, digitOf, spellNumeral, start, readNext, readFrom, readData}
 use Rattle.number.proofs.Digits.{digit-is, digit-back, digit-below}
-use Rattle.number.proofs.Reading.{read-written, read-more, read-fits, next-number, next-invalid}
+use Rattle.number.proofs.Reading.{read-written, read-none, read-next, read-fits, next-number, next-invalid}
 use Rattle.message.specs.declared.Body.{Body}
 use Rattle.message.specs.declared.Body.the-variants.{Status, Query, Up, Down, Set, Store}
 use Rattle.message.specs.declared.Message.{Message}
@@ -99,11 +99,15 @@ all-body l a i (Set x) e =
     ∙ ap (extendData l a i) (read-written x (search ands))
 all-body l a i Store e = rw (is-other i e)
 
+-- letter, address and identifier
+pub all-front : (l a i : ℕ) (cs : List ℕ) → isLetter l ≡ true → isAddress a ≡ true → isIdentifier i ≡ true → extendAll Start (l ∷ (spellAddress a ++ (i ∷ cs))) ≡ extendAll (Identifier l a i) cs
+unfolding extendAll
+all-front l a i cs p q r = ap (λ (s : Prefix). extendAll s (spellAddress a ++ (i ∷ cs))) (extend-letter l p) ∙ all-address l a i cs q r
+
 all-spell : (m : Message) → Parts m → extendAll Start (spellOpen m) ≡ Complete m
-unfolding extendAll spellOpen
+unfolding spellOpen
 all-spell m p =
-    ap (λ (s : Prefix). extendAll s (spellAddress (m .address) ++ (m .identifier ∷ spellBody (m .body)))) (extend-letter (m .letter) (p .is-letter))
-    ∙ all-address (m .letter) (m .address) (m .identifier) (spellBody (m .body)) (p .is-address) (p .is-identifier)
+    all-front (m .letter) (m .address) (m .identifier) (spellBody (m .body)) (p .is-letter) (p .is-address) (p .is-identifier)
     ∙ all-body (m .letter) (m .address) (m .identifier) (m .body) (p .fits-body)
 
 -- what is spelled is read
@@ -119,12 +123,10 @@ pub record ReadAs (x : Data) : Type 0 where
   pub reads : readData chars ≡ x
 
 read-as-start : ReadAs start
-unfolding readData readFrom
-read-as-start = record { chars = []; reads = refl }
+read-as-start = record { chars = []; reads = read-none }
 
 read-as-next : (x : Data) (c : ℕ) → ReadAs x → ReadAs (readNext x c)
-unfolding readFrom
-read-as-next x c r = record { chars = r .chars ++ (c ∷ []); reads = read-more (r .chars) (c ∷ []) ∙ ap (λ (y : Data). readNext y c) (r .reads) }
+read-as-next x c r = record { chars = r .chars ++ (c ∷ []); reads = read-next (r .chars) c ∙ ap (λ (y : Data). readNext y c) (r .reads) }
 
 -- fewer than five digits
 abbrev pub Unfinished : Data → Type 0

@@ -272,6 +272,15 @@ pub read-more : (cs ds : List ℕ) → readData (cs ++ ds) ≡ readFrom (readDat
 unfolding readData
 read-more cs ds = read-parts start cs ds
 
+-- no character, and one character more
+pub read-none : readData [] ≡ start
+unfolding readData readFrom
+read-none = refl
+
+pub read-next : (cs : List ℕ) (c : ℕ) → readData (cs ++ (c ∷ [])) ≡ readNext (readData cs) c
+unfolding readFrom
+read-next cs c = read-more cs (c ∷ [])
+
 -- no character makes good what is no data
 pub invalid-stays : (cs : List ℕ) → readFrom Invalid cs ≡ Invalid
 unfolding readFrom readNext

@@ -1,5 +1,6 @@
 pub mod Logic
 pub mod Lists
+pub mod Longer
 pub mod Buffers
 pub mod Checks
 pub mod Calls

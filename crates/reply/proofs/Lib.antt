@@ -1,3 +1,4 @@
 pub mod Spelled
 pub mod Reader
 pub mod Zeros
+pub mod Unheard

@@ -12,7 +12,8 @@ use lib.Dec.{ltb, leb, eqb}
 use lib.ListN.{length, length-map}
 use Rattle.refusal.proofs.Logic.{ands, and-left, and-right, choice, below, allBelow}
 use Rattle.refusal.specs.Lists.{every}
-use Rattle.refusal.proofs.Lists.{every-none, every-first, every-append}
+use Rattle.refusal.proofs.Lists.{every-none, every-first, every-both, every-append}
+use Rattle.refusal.proofs.Longer.{SameOrLonger, longer-map}
 use Rattle.wire.specs.Word.{evenParity, withParity, received, travelling, validWords}
 use Rattle.wire.specs.declared.Received.{Received}
 use Rattle.wire.specs.declared.Received.the-variants.{Character, Nothing}
@@ -97,6 +98,17 @@ query-travels = refl
 
 -- ---- a list of characters
 
+pub travelling-none : travelling [] ≡ []
+unfolding travelling
+travelling-none = refl
+
+pub travelling-first : (c : ℕ) (cs : List ℕ) → travelling (c ∷ cs) ≡ withParity c ∷ travelling cs
+unfolding travelling
+travelling-first c cs = refl
+
+pub travelling-one : (c : ℕ) → travelling (c ∷ []) ≡ withParity c ∷ []
+travelling-one c = rw (travelling-first, travelling-none)
+
 pub travelling-append : (xs ys : List ℕ) → travelling (xs ++ ys) ≡ travelling xs ++ travelling ys
 unfolding travelling
 travelling-append [] ys = refl
@@ -105,6 +117,10 @@ travelling-append (x ∷ xs) ys = ap (λ (l : List ℕ). withParity x ∷ l) (tr
 pub travelling-length : (cs : List ℕ) → length (travelling cs) ≡ length cs
 unfolding travelling
 travelling-length cs = length-map cs withParity
+
+pub travelling-longer : {cs ds : List ℕ} → SameOrLonger cs ds → SameOrLonger (travelling cs) (travelling ds)
+unfolding travelling
+travelling-longer h = longer-map withParity h
 
 -- ---- words that may be lent
 
@@ -119,6 +135,10 @@ word-valid w h = every-first (λ (w : ℕ). leb w 256) w [] (le-leb w 256 h) (ev
 pub valid-first : (w : ℕ) (ws : List ℕ) → validWords (w ∷ ws) ≡ true → (w ≤ 256) × (validWords ws ≡ true)
 unfolding validWords every
 valid-first w ws e = (leb-true w 256 (and-left (leb w 256) (validWords ws) e), and-right (leb w 256) (validWords ws) e)
+
+pub valid-both : (ws vs : List ℕ) → validWords (ws ++ vs) ≡ validWords ws && validWords vs
+unfolding validWords
+valid-both ws vs = every-both (λ (w : ℕ). leb w 256) ws vs
 
 pub append-valid : (ws vs : List ℕ) → validWords ws ≡ true → validWords vs ≡ true → validWords (ws ++ vs) ≡ true
 unfolding validWords

@@ -5,7 +5,7 @@ use borrow.Author.Needs.{needs}
 use borrow.Author.Tests.{le-leb}
 use lib.ListN.{length}
 use Rattle.hearing.specs.Normal.{normal}
-use Rattle.hearing.proofs.Loops.{normal-short}
+use Rattle.hearing.proofs.Shortest.{normal-short}
 use Rattle.hearing.proofs.passes.fits.Statement.{statement}
 use Rattle.hearing.proofs.passes.fits.Tie as tie
 

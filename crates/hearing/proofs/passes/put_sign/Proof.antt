@@ -2,6 +2,7 @@
 use mathlib.Core.Path.{_≡_, sym, ap, _∙_, subst}
 use mathlib.Core.List.{List}
 use Prim.Native.Nat.{ℕ, _+_, _≤_}
+use native.Mathlib.Omega.{arith}
 use lib.ListN.{length}
 use Rattle.refusal.specs.Buffer.{placed}
 use Rattle.wire.specs.Word.{travelling}
@@ -23,12 +24,12 @@ module _ (s : tie.Start) (xs : List ℕ) (e : xs ≡ travelling (spell (s .args 
 one : (o : tie.After-with-one-digit) → o .with-one-digit .result ≡ travelling (spell (o .before .before .before .args .m))
 one o =
     let s = o .before .before .before in
-    o .with-one-digit .ensures ∙ ap travelling (sym (sign-one (s .args .m) (s .args .sign) (s .pre .0) (o .before .if1 .taken)))
+    o .with-one-digit .ensures ∙ ap travelling (sym (sign-one (s .args .m) (s .args .sign) (s .pre .0) (omega (arith, o .before .if1 .taken))))
 
 two : (o : tie.After-with-two-digits) → o .with-two-digits .result ≡ travelling (spell (o .before .before .before .args .m))
 two o =
     let s = o .before .before .before in
-    o .with-two-digits .ensures ∙ ap travelling (sym (sign-two (s .args .m) (s .args .sign) (s .pre .0) (o .before .if1 .left)))
+    o .with-two-digits .ensures ∙ ap travelling (sym (sign-two (s .args .m) (s .args .sign) (s .pre .0) (omega (arith, o .before .if1 .left))))
 
 copy-requires : tie.Need-copy-requires
 copy-requires c κs = let o = c .before .before in room (o .before .before .before) (o .with-one-digit .result) (one o)
