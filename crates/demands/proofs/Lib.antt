@@ -7,6 +7,7 @@ pub mod Answers
 pub mod Possible
 pub mod Offers
 pub mod Recordings
+pub mod Shortest
 pub mod Neighbours
 pub mod Causes
 pub mod Zeros

@@ -23,9 +23,14 @@ use Rattle.card.specs.Calls.{After, Took, ended, runCall}
 use Rattle.card.proofs.Steps.{run-served}
 use Rattle.card.proofs.Runs.{all, all-end, all-word, all-taken, run-all}
 use Rattle.card.proofs.Plays.{Left, leftBy, left-alike}
-use Rattle.demands.specs.Terms.{Sound, replies}
+use Rattle.demands.specs.Terms.{Sound, Writes, replies}
 use Rattle.demands.specs.Demand3.{Wrote, PlayedAlike, Demand3}
 use Rattle.demands.proofs.Words.{passed}
+
+-- ---- a call that writes
+
+pub laid-writes : (call : Call) (xs out : List ℕ) → call ≡ record { outcome = gave (length xs); buffer = laid xs out } → Writes call xs
+laid-writes call xs out e = record { gives = ap (λ (c : Call). c .outcome) e; front = ap (λ (c : Call). take (length xs) (c .buffer)) e ∙ laid-front xs out }
 
 -- ---- the call that writes a normal form
 
@@ -45,10 +50,8 @@ leaves ws out xs p =
     normal-served ws out (p .valid) (rw (sym (ap length (p .is-normal))) (p .room))
     ∙ ap (λ (l : List ℕ). record { outcome = gave (length l); buffer = laid l out }) (sym (p .is-normal))
 
-whole : (ws out xs : List ℕ) → Parts ws out xs → Wrote ws out xs
-whole ws out xs p =
-    let l = leaves ws out xs p in
-    record { gives = ap (λ (c : Call). c .outcome) l; front = ap (λ (c : Call). take (length xs) (c .buffer)) l ∙ laid-front xs out }
+pub whole : (ws out xs : List ℕ) → Parts ws out xs → Wrote ws out xs
+whole ws out xs p = laid-writes (normalCall ws out) xs out (leaves ws out xs p)
 
 same-messages : (a b xs ys : List ℕ) → xs ≡ normal a → ys ≡ normal b → (xs ≡ ys) ↔ (heard a ≡ heard b)
 same-messages a b xs ys p q = (λ e. normal-same a b .0 (sym p ∙ e ∙ q), λ e. p ∙ normal-same a b .1 e ∙ sym q)

@@ -38,10 +38,15 @@ use Rattle.demands.specs.Demand2.{WriterHeard, oneMore, takesNone, RunSt
 
 -- ---- the writer
 
+-- a message that fits is written
+pub message-leaves : (m : Message) (out : List ℕ) → isMessage m ≡ true → length (travelling (spell m)) ≤ length out
+    → writeCall m out ≡ record { outcome = gave (length (travelling (spell m))); buffer = laid (travelling (spell m)) out }
+message-leaves m out e h = write-served m out e ∙ writes-all (travelling (spell m)) out [] first-none h
+
 writes-message : (m : Message) (out : List ℕ) (n : ℕ) → isMessage m ≡ true → n ≡ length (spell m) → n ≤ length out → writeCall m out .outcome ≡ gave n
 writes-message m out n e k h =
     let l = travelling-length (spell m) in
-    ap (λ (c : Call). c .outcome) (write-served m out e ∙ writes-all (travelling (spell m)) out [] first-none (omega arith)) ∙ ap gave (l ∙ sym k)
+    ap (λ (c : Call). c .outcome) (message-leaves m out e (omega arith)) ∙ ap gave (l ∙ sym k)
 
 pub writers-heard : WriterHeard
 writers-heard = record {

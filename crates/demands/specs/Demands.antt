@@ -1,5 +1,5 @@
--- The three demands, the neighbours, the causes, both zeros, many cards on one pair and the bench cases, all together: what the one function
--- of this crate promises.
+-- The three demands, the neighbours, the causes, both zeros, many cards on one pair, the shortest normal form and the tables of cases, all
+-- together: what the one function of this crate promises.
 use mathlib.Core.Path.{_≡_}
 use mathlib.Core.Bool.{true}
 use lib.ListN.{length}
@@ -11,6 +11,7 @@ use Rattle.demands.specs.Bench.{benchCases, twentyNeighbours, moreCases,
 use Rattle.demands.specs.Demand1.{Demand1}
 use Rattle.demands.specs.Demand2.{Demand2}
 use Rattle.demands.specs.Demand3.{Demand3}
+use Rattle.demands.specs.Shortest.{Shortest, RepliesDropped, formCases, passesForm}
 use Rattle.demands.specs.Neighbours.{NeighboursIgnored}
 use Rattle.demands.specs.Causes.{Causes}
 use Rattle.demands.specs.Zeros.{Zeros}
@@ -24,6 +25,8 @@ pub record Demands : Type 0 where
   pub causes : Causes
   pub zeros : Zeros
   pub bus : Bus
+  pub shortest : Shortest
+  pub replies-dropped : RepliesDropped
   -- cases a to l, and the second table
   pub bench : every passes benchCases ≡ true
   pub more : every passes moreCases ≡ true
@@ -32,6 +35,8 @@ pub record Demands : Type 0 where
   -- both zeros, on the first revision and on the second
   pub zeros-first : every passes firstCases ≡ true
   pub zeros-second : every (passesOn 2) secondCases ≡ true
+  -- normal forms
+  pub forms : every passesForm formCases ≡ true
   -- the scan
   pub scan : every passesScan scanCases ≡ true
   pub no-replies : every isNoReply noReplies ≡ true

@@ -3,6 +3,7 @@ pub mod Terms
 pub mod Demand1
 pub mod Demand2
 pub mod Demand3
+pub mod Shortest
 pub mod Neighbours
 pub mod Causes
 pub mod Zeros

@@ -5,7 +5,7 @@ use Rattle.demands.proofs.demands.Tie as tie
 use Rattle.demands.specs.Demand2.{Demand2}
 use Rattle.demands.specs.BusCases.{Bus}
 use Rattle.demands.specs.Demands.{Demands}
-use Rattle.demands.proofs.Cases.{bench, more, zeros-first, zeros-second, twenty-heard, scan, no-replies}
+use Rattle.demands.proofs.Cases.{bench, more, zeros-first, zeros-second, twenty-heard, forms, scan, no-replies}
 use Rattle.demands.proofs.BusCases.{bus-tables, not-empty}
 use Rattle.demands.proofs.Refusals.{demand-1}
 use Rattle.demands.proofs.Words.{writers-heard, run-steps}
@@ -14,6 +14,7 @@ use Rattle.demands.proofs.Answers.{reply-read}
 use Rattle.demands.proofs.Possible.{reader-exact}
 use Rattle.demands.proofs.Offers.{offer-reachable, never-up}
 use Rattle.demands.proofs.Recordings.{demand-3}
+use Rattle.demands.proofs.Shortest.{shortest, replies-dropped}
 use Rattle.demands.proofs.Neighbours.{neighbours-ignored}
 use Rattle.demands.proofs.Causes.{causes}
 use Rattle.demands.proofs.Zeros.{zeros}
@@ -45,11 +46,14 @@ all-hold = record {
   causes = causes;
   zeros = zeros;
   bus = bus;
+  shortest = shortest;
+  replies-dropped = replies-dropped;
   bench = bench;
   more = more;
   twenty-heard = twenty-heard;
   zeros-first = zeros-first;
   zeros-second = zeros-second;
+  forms = forms;
   scan = scan;
   no-replies = no-replies;
 }
