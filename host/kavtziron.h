@@ -127,7 +127,9 @@ int64_t kav_bus_run(int32_t *cards, size_t cards_length,
 
 /*
  * Writes the messages heard in a recording in their normal form, one byte to a word. Gives the
- * count of words written, never more than were lent. Refused with 4, 5.
+ * count of words written, never more than the recording has: an out as long as words is always room
+ * enough. No shorter recording is heard as the same messages in the same order, and no other as short.
+ * Refused with 4, 5.
  */
 int64_t kav_normal_form(const uint16_t *words, size_t words_length,
                         uint16_t *out, size_t out_length);
