@@ -1,6 +1,7 @@
 #!/bin/sh
 # Tries the tests themselves: each edit of defects/ makes the reference wrong in one way, in a copy, and the differential tests with the
-# archive have to notice. usage: defects.sh [NAME..]    (`rt staticlib abi` first; KAV_ARCHIVE names another archive)
+# archive have to notice. usage: defects.sh [NAME..]    (`rt staticlib abi` first; KAV_ARCHIVE names another archive; with
+# KAV_TEST=shortest it is tests/shortest.rs that has to)
 # Exit status 1 where one isn't noticed, 2 where nothing could be tried.
 set -u
 cd "$(dirname "$0")" || exit 2
@@ -12,10 +13,11 @@ trap 'exit 2' HUP INT TERM
 
 # The copy has no programs and is built with less care for speed.
 mkdir "$work/host" && cp -R Cargo.toml Cargo.lock build.rs src tests "$work/host" && rm -r "$work/host/src/bin" || exit 2
+cp -R ../samples ../docs "$work" || exit 2
 export KAV_ARCHIVE KAV_SEED="${KAV_SEED:-7737595902926417774}" CARGO_TARGET_DIR="$work/target" CARGO_PROFILE_RELEASE_OPT_LEVEL=1 \
     CARGO_PROFILE_RELEASE_LTO=off CARGO_PROFILE_RELEASE_DEBUG=0 CARGO_PROFILE_RELEASE_CODEGEN_UNITS=16 \
     CARGO_PROFILE_RELEASE_INCREMENTAL=true
-tests() { (cd "$work/host" && cargo test --release --features archive --test differential "$@") > "$work/said" 2>&1; }
+tests() { (cd "$work/host" && cargo test --release --features archive --test "${KAV_TEST:-differential}" "$@") > "$work/said" 2>&1; }
 # A hundredth of the cases, and all of them where these agree.
 agree() { KAV_PART=100 tests && tests; }
 

@@ -1,19 +1,18 @@
 //! Request 7: "Show that no recording with fewer words is heard as the same messages, in the same order." That is
-//! proved; here it is tried without the proof, on all strings and all recordings over small alphabets, and so is
-//! that no other recording of as many words is heard alike. The archive and the reference are each held to it by
-//! themselves. `-- --nocapture` prints how many were tried.
+//! proved; here it is tried without the proof, and so is that no other recording of as many words is heard alike: on
+//! all strings over small alphabets, cut off where no well-formed message begins so, and on all short recordings,
+//! where nothing is cut off. The archive and the reference are each held to it by themselves; what should be heard is
+//! found by neither, but in [`table`]. `-- --nocapture` prints how many were tried.
 
 #[path = "shortest/table.rs"]
 mod table;
 
 use kavtziron_host::gen::{on_line, words_of};
 use kavtziron_host::reference::calls;
-use kavtziron_host::reference::hearing::{for_each_heard, Open};
-use kavtziron_host::reference::message::Message as Heard;
 use std::collections::HashMap;
 use std::io::Write as _;
 use std::path::{Path, PathBuf};
-use table::{counts, messages, read, Message, Read, CHARACTERS, DIGITS};
+use table::{counts, messages, read, Message, Open, Read, CHARACTERS, DIGITS};
 
 type Write = fn(u8, u32, u8, u8, i32, u32, u32, &mut [u8]) -> i64;
 
@@ -138,11 +137,11 @@ fn one_message() {
     for_each_side(|side| DIGITS.iter().for_each(|digits| hold_messages(side, digits)));
 }
 
-/// A recording, and what the reference hears in it and leaves open.
+/// A recording, the messages heard in it, and what it leaves open.
 #[derive(Clone, Default)]
 struct Recording {
     words: Vec<u16>,
-    heard: Vec<Heard>,
+    heard: Vec<Message>,
     open: Open,
 }
 
@@ -159,7 +158,7 @@ fn for_each_recording(
     let (length, count, open) = (recording.words.len(), recording.heard.len(), recording.open);
     for piece in pieces {
         recording.words.extend_from_slice(piece);
-        for_each_heard(&mut recording.open, piece, |_, message| recording.heard.push(message));
+        recording.heard.extend(piece.iter().filter_map(|&word| recording.open.take(word)));
         for_each_recording(pieces, more - 1, recording, each);
         recording.words.truncate(length);
         recording.heard.truncate(count);
@@ -212,8 +211,8 @@ fn whole_recordings() {
     let clean = ["L", "7", "0", "?", "*"].map(words);
     // Their messages: `L7??*`, `L7L?*`, `L70??*`, `L70L?*`, `L77??*`, `L77L?*`.
     let lengths = [5, 5, 6, 6, 6, 6];
-    // Two messages, for what can stand between them. The shorter spelling comes first.
-    let pieces = ["L7??*", "L7M?*", "L07??*", "R", "x", "*"].map(words);
+    // Two messages, for what can stand between them; `R` and ten characters are dropped. The shorter spelling comes first.
+    let pieces = ["L7??*", "L7M?*", "L07??*", "R", "xxxxx", "*"].map(words);
     for_each_side(|side| {
         hold_recordings(side, &clean, 11, lists(&lengths, 11));
         hold_recordings(side, &[&clean[..], &spoiled].concat(), 8, lists(&lengths, 8));

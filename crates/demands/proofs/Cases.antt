@@ -45,7 +45,7 @@ use Rattle.card.specs.Refusals.{isRevision, soundScan, soundSetup, soundCard, o
 use Rattle.card.specs.Calls.{stepCall, runCall}
 use Rattle.demands.specs.Terms.{Sound, wroteThese}
 use Rattle.demands.specs.Causes.{sameWhy, isAmong, gaveCause, drawsIt, causeCases, everyCause, hasCase}
-use Rattle.demands.specs.Shortest.{FormCase, formCases, recordedWords, passesForm}
+use Rattle.demands.specs.Shortest.{FormCase, formCases, wordsIn, passesForm}
 use Rattle.demands.specs.Zeros.{zeroForms, isOwnForm}
 use Rattle.demands.specs.Bench.{benchRows, benchValues, cardWith, Case, benchCases, twentyNeighbours, moreCases, firstCases, secondCases, scanCases, noReplies, timeRow, scanValues, equalZ, took, answersAll, passesOn, passes, passesScan, isNoReply}
 
@@ -68,17 +68,17 @@ pub zeros-second : every (passesOn 2) secondCases ≡ true
 unfolding computed secondCases
 zeros-second = refl
 
--- normal forms
-unfoldable pub formed : List FormCase → Bool
-unfolding computed heardFrom before heard kindOf spellKind spellOpen spell spellNumeral wordsOf normal normalCall writes wroteThese recordedWords passesForm
-formed xs = every passesForm xs
+-- what a table of normal forms computes through
+unfoldable pub computedForms : List FormCase → Bool
+unfolding computed heardFrom before heard kindOf spellKind spellOpen spell spellNumeral wordsOf normal normalCall writes wroteThese wordsIn passesForm
+computedForms xs = every passesForm xs
 
-pub forms : every passesForm formCases ≡ true
-unfolding formed formCases
-forms = refl
+pub normal-forms : every passesForm formCases ≡ true
+unfolding computedForms formCases
+normal-forms = refl
 
 pub own-forms : every isOwnForm zeroForms ≡ true
-unfolding formed isOwnForm zeroForms
+unfolding computedForms isOwnForm zeroForms
 own-forms = refl
 
 -- the second table

@@ -23,13 +23,13 @@ use Rattle.card.specs.Calls.{After, Took, ended, runCall}
 use Rattle.card.proofs.Steps.{run-served}
 use Rattle.card.proofs.Runs.{all, all-end, all-word, all-taken, run-all}
 use Rattle.card.proofs.Plays.{Left, leftBy, left-alike}
-use Rattle.demands.specs.Terms.{Sound, Writes, replies}
+use Rattle.demands.specs.Terms.{Sound, HasWritten, replies}
 use Rattle.demands.specs.Demand3.{Wrote, PlayedAlike, Demand3}
 use Rattle.demands.proofs.Words.{passed}
 
 -- ---- a call that writes
 
-pub laid-writes : (call : Call) (xs out : List ℕ) → call ≡ record { outcome = gave (length xs); buffer = laid xs out } → Writes call xs
+pub laid-writes : (call : Call) (xs out : List ℕ) → call ≡ record { outcome = gave (length xs); buffer = laid xs out } → HasWritten call xs
 laid-writes call xs out e = record { gives = ap (λ (c : Call). c .outcome) e; front = ap (λ (c : Call). take (length xs) (c .buffer)) e ∙ laid-front xs out }
 
 -- ---- the call that writes a normal form

@@ -14,11 +14,11 @@ use Rattle.hearing.specs.Hearing.{heard}
 use Rattle.hearing.specs.Normal.{normal, normalCall}
 use Rattle.card.specs.declared.Card.{Card}
 use Rattle.card.specs.Calls.{runCall}
-use Rattle.demands.specs.Terms.{Sound, Writes, replies}
+use Rattle.demands.specs.Terms.{Sound, HasWritten, replies}
 
 -- the call is served on the recording ws with the buffer out, and the words that it wrote there are xs
 abbrev pub Wrote : List ℕ → List ℕ → List ℕ → Type 0
-Wrote ws out xs = Writes (normalCall ws out) xs
+Wrote ws out xs = HasWritten (normalCall ws out) xs
 
 -- two runs, of the words ws and of the words xs, each with "a buffer at least as long as all the replies together"
 pub record PlayedAlike (bench maker : List ℤ) (c : Card) (values : List ℤ) (ws xs out out′ : List ℕ) : Type 0 where

@@ -35,8 +35,8 @@ pub record Demands : Type 0 where
   -- both zeros, on the first revision and on the second
   pub zeros-first : every passes firstCases ≡ true
   pub zeros-second : every (passesOn 2) secondCases ≡ true
-  -- normal forms
-  pub forms : every passesForm formCases ≡ true
+  -- what a normal form keeps and drops
+  pub normal-forms : every passesForm formCases ≡ true
   -- the scan
   pub scan : every passesScan scanCases ≡ true
   pub no-replies : every isNoReply noReplies ≡ true

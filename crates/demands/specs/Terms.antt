@@ -26,7 +26,7 @@ pub record Sound (bench maker : List ℤ) (c : Card) (values : List ℤ) : Type 
   pub values-sound : soundValues bench maker values ≡ true
 
 -- the call is served, and what it wrote at the front of its buffer is xs
-pub record Writes (call : Call) (xs : List ℕ) : Type 0 where
+pub record HasWritten (call : Call) (xs : List ℕ) : Type 0 where
   pub gives : call .outcome ≡ gave (length xs)
   pub front : take (length xs) (call .buffer) ≡ xs
 

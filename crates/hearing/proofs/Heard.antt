@@ -10,6 +10,7 @@ use borrow.Author.Tests.{lt-ltb, ne-eqb}
 use lib.Dec.{eqb, lit<}
 use lib.ListN.{length, take, set, length-append, length-set}
 use lib.Seq.{take-suc-set}
+use Rattle.refusal.proofs.Lists.{Each}
 use Rattle.wire.specs.Word.{withParity, travelling}
 use Rattle.wire.proofs.Words.{travels, travelling-append}
 use Rattle.message.specs.declared.Message.{Message}
@@ -207,8 +208,7 @@ unfolding hear
 hear-message p w = performed p (actionOf p w)
 
 abbrev pub Messages : List Message → Type 0
-Messages [] = Unit {0}
-Messages (m ∷ ms) = (isMessage m ≡ true) × Messages ms
+Messages ms = Each (λ (m : Message). isMessage m ≡ true) ms
 
 messages-before : (o : Parsed) (ms : List Message) → Heard-is o → Messages ms → Messages (before o ms)
 unfolding before

@@ -128,8 +128,8 @@ module _ (ws out : List ℕ) where
 
 -- two recordings that are valid alike and heard alike
 pub normal-alike : (a b out : List ℕ) → validWords a ≡ validWords b → heard a ≡ heard b → normalCall a out ≡ normalCall b out
-unfolding normalCall normal
-normal-alike a b out v h = ap₂ (λ (x : Bool) (ms : List Message). writes (refuseIf (not x) WordAbove256 ∷ []) (wordsOf ms) out) v h
+normal-alike a b out v h =
+    normal-is a out ∙ ap₂ (λ (x : Bool) (xs : List ℕ). writes (refuseIf (not x) WordAbove256 ∷ []) xs out) v (normal-same a b .1 h) ∙ sym (normal-is b out)
 
 -- ---- the writer
 

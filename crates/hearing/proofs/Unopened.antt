@@ -19,7 +19,7 @@ use Rattle.message.specs.declared.Parsed.{Parsed}
 use Rattle.message.specs.declared.Parsed.the-variants.{Unheard}
 use Rattle.message.specs.Message.{star, isLetter}
 use Rattle.message.proofs.Messages.{Plain, Unopening, no-letter-is}
-use Rattle.message.proofs.Places.{NoMessage}
+use Rattle.message.proofs.Places.{HeardAsNothing}
 use Rattle.hearing.specs.declared.Pending.{Pending}
 use Rattle.hearing.specs.declared.Action.{Action}
 use Rattle.hearing.specs.Hearing.{most, none, added, opening, actionOf, perform, hear, before, heardFrom, openAfter, heard}
@@ -72,10 +72,10 @@ too-long c cs rest e u h =
     ∙ word-dropped star rest (lit< tt) (no-letter-is star (λ e. omega arith) (λ e. omega arith))
 
 -- a letter, characters that are no message with it, and `*`: nothing is heard
-pub no-message : (c : ℕ) (cs rest : List ℕ) → isLetter c ≡ true → Plain cs → NoMessage c cs → heardFrom none (travelling ((c ∷ cs) ++ (star ∷ [])) ++ rest) ≡ heardFrom none rest
-no-message c cs rest e p (inl u) =
+pub heard-as-nothing : (c : ℕ) (cs rest : List ℕ) → isLetter c ≡ true → Plain cs → HeardAsNothing c cs → heardFrom none (travelling ((c ∷ cs) ++ (star ∷ [])) ++ rest) ≡ heardFrom none rest
+heard-as-nothing c cs rest e p (inl u) =
     heard-as c cs rest e p (u .0) .hears ∙ ap (λ (x : Parsed). before x (heardFrom none rest)) (u .1) ∙ before-unheard (heardFrom none rest)
-no-message c cs rest e p (inr u) = too-long c cs rest e (u .1) (u .0)
+heard-as-nothing c cs rest e p (inr u) = too-long c cs rest e (u .1) (u .0)
 
 -- words of which nothing is heard, between two recordings
 pub heard-between : (ws xs vs : List ℕ) → openAfter none ws ≡ none → heardFrom none (xs ++ vs) ≡ heardFrom none vs → heard (ws ++ (xs ++ vs)) ≡ heard (ws ++ vs)

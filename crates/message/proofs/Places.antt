@@ -247,6 +247,7 @@ wrong-count (l ∷ d ∷ cs) f =
 pub too-short : (cs : List ℕ) → length cs < 4 → parse cs ≡ Unheard
 too-short cs h = wrong-count cs (λ a b. omega arith)
 
--- characters behind a letter that are no message: read as none, or too many for one and no letter among them
-abbrev pub NoMessage : ℕ → List ℕ → Type 0
-NoMessage c cs = ((length (c ∷ cs) ≤ 10) × (parse (c ∷ cs) ≡ Unheard)) ⊎ ((10 ≤ length cs) × Unopening cs)
+-- a letter and characters behind it that are no message: ten at most, which is all that an open message holds, and read as none; or more,
+-- and no letter among those behind the first
+abbrev pub HeardAsNothing : ℕ → List ℕ → Type 0
+HeardAsNothing c cs = ((length (c ∷ cs) ≤ 10) × (parse (c ∷ cs) ≡ Unheard)) ⊎ ((10 ≤ length cs) × Unopening cs)

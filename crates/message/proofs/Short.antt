@@ -60,6 +60,10 @@ more l a i cs ds c h = subst (λ (x : List ℕ). SameOrLonger x (ds ++ (c ∷ []
 
 -- ---- each character keeps it
 
+-- and one more
+abbrev With : List ℕ → ℕ → Prefix → Type 0
+With cs c s = Taken s (cs ++ (c ∷ []))
+
 module _ (l d c : ℕ) (cs : List ℕ) (e : cs ≡ l ∷ digit d ∷ []) (h : d ≤ 9) where
   -- a second digit of the address: a leading zero isn't spelled
   second-digit : isDigit c ≡ true → SameOrLonger (l ∷ spellAddress (d * 10 + digitOf c)) (cs ++ (c ∷ []))
@@ -89,20 +93,17 @@ module _ (l a i : ℕ) (cs : List ℕ) (h : SameOrLonger (spelledTo l a i []) cs
       let s : spellBody b ≡ c ∷ [] = q ∙ ap (λ (x : ℕ). x ∷ []) (sym (eqb-true c d e)) in
       rw s (more l a i [] cs c h)
 
-  taken-body : (c : ℕ) → Taken (extendBody l a i c) (cs ++ (c ∷ []))
+  taken-body : (c : ℕ) → With cs c (extendBody l a i c)
   unfolding extendBody kindOf spellKind
   taken-body c =
-      choice T (eqb i question)
-      (λ _. choice T (eqb c question) (λ t. whole Status c question t refl) (λ _. tt))
-      (λ _. choice T (eqb c question) (λ t. whole Query c question t refl)
-      (λ _. choice T (eqb c (code "+")) (λ t. whole Up c (code "+") t refl)
-      (λ _. choice T (eqb c (code "-")) (λ t. whole Down c (code "-") t refl)
-      (λ _. choice T (eqb c (code "I")) (λ t. whole Store c (code "I") t refl)
-      (λ _. choice T (eqb c (code "#")) (λ t. hash (eqb-true c (code "#") t)) (λ _. tt))))))
+      choice (With cs c) (eqb i question)
+      (λ _. choice (With cs c) (eqb c question) (λ t. whole Status c question t refl) (λ _. tt))
+      (λ _. choice (With cs c) (eqb c question) (λ t. whole Query c question t refl)
+      (λ _. choice (With cs c) (eqb c (code "+")) (λ t. whole Up c (code "+") t refl)
+      (λ _. choice (With cs c) (eqb c (code "-")) (λ t. whole Down c (code "-") t refl)
+      (λ _. choice (With cs c) (eqb c (code "I")) (λ t. whole Store c (code "I") t refl)
+      (λ _. choice (With cs c) (eqb c (code "#")) (λ t. hash (eqb-true c (code "#") t)) (λ _. tt))))))
     where
-      T : Prefix → Type 0
-      T s = Taken s (cs ++ (c ∷ []))
-
       hash : c ≡ code "#" → WithData l a i start (cs ++ (c ∷ []))
       hash e = record {
         front = cs ++ (c ∷ []);
@@ -131,15 +132,15 @@ next-data l a i x c cs w = record {
   longer = w .longer;
 }
 
-taken-step : (s : Prefix) (c : ℕ) (cs : List ℕ) → Taken s cs → Taken (extend s c) (cs ++ (c ∷ []))
+taken-step : (s : Prefix) (c : ℕ) (cs : List ℕ) → Taken s cs → With cs c (extend s c)
 unfolding extend extendAddress
-taken-step Start c cs h = choice (λ (s : Prefix). Taken s (cs ++ (c ∷ []))) (isLetter c) (λ t. ap (λ (x : List ℕ). x ++ (c ∷ [])) h) (λ t. tt)
+taken-step Start c cs h = choice (With cs c) (isLetter c) (λ t. ap (λ (x : List ℕ). x ++ (c ∷ [])) h) (λ t. tt)
 taken-step (Letter l) c cs h =
-    choice (λ (s : Prefix). Taken s (cs ++ (c ∷ []))) (isDigit c)
+    choice (With cs c) (isDigit c)
     (λ t. (ap (λ (x : List ℕ). x ++ (c ∷ [])) h ∙ ap (λ (x : ℕ). l ∷ x ∷ []) (sym (digit-again c t)), digit-below c t)) (λ t. tt)
 taken-step (Digit l d) c cs h =
-    choice (λ (s : Prefix). Taken s (cs ++ (c ∷ []))) (isDigit c)
-    (λ t. choice (λ (s : Prefix). Taken s (cs ++ (c ∷ []))) (isAddress (d * 10 + digitOf c)) (λ u. second-digit l d c cs (h .0) (h .1) t) (λ u. tt))
+    choice (With cs c) (isDigit c)
+    (λ t. choice (With cs c) (isAddress (d * 10 + digitOf c)) (λ u. second-digit l d c cs (h .0) (h .1) t) (λ u. tt))
     (λ t. taken-identifier l d c (cs ++ (c ∷ [])) (behind-one l d c cs (h .0) (h .1)))
 taken-step (Address l a) c cs h = taken-identifier l a c (cs ++ (c ∷ [])) (unfold spelledTo in longer-behind (c ∷ []) h)
 taken-step (Identifier l a i) c cs h = taken-body l a i cs h c

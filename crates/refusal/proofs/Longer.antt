@@ -1,4 +1,4 @@
--- A list that is another or is longer than it: kept by what is put behind both or before both, by a map, and from one to the next.
+-- A list that is the same as another, or longer: kept by what is put behind both or before both, by a map, and from one to the next.
 -- Assumes nothing.
 use mathlib.Core.Path.{_≡_, refl, ap, _∙_}
 use mathlib.Core.Logic.{_⊎_, inl, inr}
@@ -17,9 +17,9 @@ module _ {A : Type 0} where
   not-shorter (inr h) = omega arith
 
   -- one that is as long is the same
-  pub as-long : {xs ys : List A} → SameOrLonger xs ys → length ys ≤ length xs → ys ≡ xs
-  as-long (inl e) l = e
-  as-long (inr h) l = absurd (omega arith)
+  pub as-long-is-same : {xs ys : List A} → SameOrLonger xs ys → length ys ≤ length xs → ys ≡ xs
+  as-long-is-same (inl e) l = e
+  as-long-is-same (inr h) l = absurd (omega arith)
 
   pub longer-than-none : (ys : List A) → SameOrLonger [] ys
   longer-than-none [] = inl refl

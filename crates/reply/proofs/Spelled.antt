@@ -123,13 +123,20 @@ mark-plain mark.Accepted = record { small = lit< tt; no-star = refl }
 mark-plain mark.Offered = record { small = lit< tt; no-star = refl }
 mark-plain mark.Declined = record { small = lit< tt; no-star = refl }
 
--- those before the `*`
+-- those behind the letter, and all of them before the `*`
+abbrev pub behindLetter : Answer → List ℕ
+behindLetter a = spellAddress (a .address) ++ (a .identifier ∷ (spellContent (a .content) ++ (markOf (a .mark) ∷ [])))
+
 unfoldable pub beforeStar : Answer → List ℕ
-beforeStar a = a .letter ∷ (spellAddress (a .address) ++ (a .identifier ∷ (spellContent (a .content) ++ (markOf (a .mark) ∷ []))))
+beforeStar a = a .letter ∷ behindLetter a
+
+pub spelled-behind : (a : Answer) → spellAnswer a ≡ (a .letter ∷ behindLetter a) ++ (star ∷ [])
+unfolding spellAnswer
+spelled-behind a = simp append-assoc
 
 pub star-ends : (a : Answer) → spellAnswer a ≡ beforeStar a ++ (star ∷ [])
-unfolding spellAnswer beforeStar
-star-ends a = simp append-assoc
+unfolding beforeStar
+star-ends a = spelled-behind a
 
 pub before-plain : (a : Answer) → isLetter (a .letter) ≡ true → isAddress (a .address) ≡ true → isIdentifier (a .identifier) ≡ true → Plain (beforeStar a)
 unfolding beforeStar

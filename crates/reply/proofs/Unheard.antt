@@ -1,4 +1,4 @@
--- No reply is a message. With one number or none it is read as no message, since what stands behind its identifier begins no body; with
+-- Nothing is heard of a reply. With one number or none it is read as no message, since what stands behind its identifier begins no body; with
 -- four or five it has more than ten characters, and none of them but the first is a letter. Assumes nothing.
 use mathlib.Core.Path.{_≡_, ap, _∙_}
 use mathlib.Core.Logic.{inl, inr}
@@ -12,27 +12,19 @@ use lib.Dec.{eqb}
 use lib.ListN.{length, length-append}
 use Rattle.refusal.proofs.Lists.{each-append, each-as}
 use Rattle.number.proofs.Digits.{AllDigits, data-length}
-use Rattle.message.specs.Message.{star, question, isLetter, isAddress, isIdentifier}
+use Rattle.message.specs.Message.{question, isLetter, isAddress, isIdentifier}
 use Rattle.message.specs.Spell.{spellAddress}
 use Rattle.message.proofs.Messages.{Plain, plain-identifier, UnopeningChar, no-letter-is, unopening-digit}
 use Rattle.message.proofs.Spelling.{address-length, address-digits}
-use Rattle.message.proofs.Places.{digit-wrong, status-wrong, wrong-body, NoMessage}
+use Rattle.message.proofs.Places.{digit-wrong, status-wrong, wrong-body, HeardAsNothing}
 use Rattle.reply.specs.declared.Mark.{Mark}
 use Rattle.reply.specs.declared.Mark.the-variants as mark
 use Rattle.reply.specs.declared.Content.{Content}
 use Rattle.reply.specs.declared.Content.the-variants.{Empty, Number, Four, Five}
 use Rattle.reply.specs.declared.Answer.{Answer}
-use Rattle.reply.specs.Reply.{scanIdentifier, markOf, spellContent, spellAnswer, fitsContent}
-use Rattle.reply.proofs.Spelled.{no-data, number-data, four-length, five-length, content-digits, mark-plain, beforeStar, star-ends, before-plain}
+use Rattle.reply.specs.Reply.{scanIdentifier, markOf, spellContent, fitsContent}
+use Rattle.reply.proofs.Spelled.{no-data, number-data, four-length, five-length, content-digits, mark-plain, behindLetter, beforeStar, before-plain}
 use Rattle.reply.proofs.Reader.{AnswerParts, status-content, four-content, five-content}
-
--- what stands behind the letter and before the `*`
-abbrev pub behindLetter : Answer → List ℕ
-behindLetter a = spellAddress (a .address) ++ (a .identifier ∷ (spellContent (a .content) ++ (markOf (a .mark) ∷ [])))
-
-pub spelled-behind : (a : Answer) → spellAnswer a ≡ (a .letter ∷ behindLetter a) ++ (star ∷ [])
-unfolding beforeStar
-spelled-behind a = star-ends a
 
 pub behind-plain : (a : Answer) → AnswerParts a → Plain (behindLetter a)
 unfolding beforeStar
@@ -52,18 +44,18 @@ module _ (l a i : ℕ) (k : Mark) (p : isLetter l ≡ true) (q : isAddress a ≡
   long cs = omega (arith, length-append (spellAddress a) (i ∷ (cs ++ (markOf k ∷ []))), length-append cs (markOf k ∷ []))
 
   -- no data
-  status : fitsContent i k Empty ≡ true → NoMessage l (with [])
+  status : fitsContent i k Empty ≡ true → HeardAsNothing l (with [])
   status e =
       let s = status-content i k e in
       inl (omega (arith, long [], address-length a), wrong-body l a i (markOf k) [] p q r (status-wrong l a i (markOf k) (s .1) (ap (λ (x : Mark). eqb (markOf x) question) (s .0))))
 
   -- one number
-  number : (cs : List ℕ) → AllDigits cs → length cs ≡ 5 → NoMessage l (with cs)
+  number : (cs : List ℕ) → AllDigits cs → length cs ≡ 5 → HeardAsNothing l (with cs)
   number [] d n = absurd (omega arith)
   number (c ∷ cs) d n = inl (omega (arith, long (c ∷ cs), address-length a), wrong-body l a i c (cs ++ (markOf k ∷ [])) p q r (digit-wrong l a i c (d .0)))
 
   -- several
-  scan : (cs : List ℕ) → AllDigits cs → 22 ≤ length cs → eqb i scanIdentifier ≡ true → NoMessage l (with cs)
+  scan : (cs : List ℕ) → AllDigits cs → 22 ≤ length cs → eqb i scanIdentifier ≡ true → HeardAsNothing l (with cs)
   scan cs d n e =
       let s = eqb-true i scanIdentifier e in
       let bracket : UnopeningChar i = record { is-plain = plain-identifier i r; no-letter = no-letter-is i (λ z. omega arith) (λ z. omega arith) } in
@@ -73,11 +65,11 @@ module _ (l a i : ℕ) (k : Mark) (p : isLetter l ≡ true) (q : isAddress a ≡
             (bracket, each-append UnopeningChar cs (markOf k ∷ []) (each-as unopening-digit cs d) (mark-unopening k, tt)),
       )
 
-  by-content : (x : Content) → fitsContent i k x ≡ true → NoMessage l (with (spellContent x))
+  by-content : (x : Content) → fitsContent i k x ≡ true → HeardAsNothing l (with (spellContent x))
   by-content Empty e = rw no-data (status e)
   by-content (Number x) e = number (spellContent (Number x)) (content-digits (Number x)) (ap length (number-data x) ∙ data-length x)
   by-content (Four x y z v) e = scan (spellContent (Four x y z v)) (content-digits (Four x y z v)) (omega (arith, four-length x y z v)) (four-content i k x y z v e .is-scan)
   by-content (Five x y z v w) e = scan (spellContent (Five x y z v w)) (content-digits (Five x y z v w)) (omega (arith, five-length x y z v w)) (five-content i k x y z v w e .is-scan)
 
-pub reply-no-message : (a : Answer) → AnswerParts a → NoMessage (a .letter) (behindLetter a)
-reply-no-message a p = by-content (a .letter) (a .address) (a .identifier) (a .mark) (p .is-letter) (p .is-address) (p .is-identifier) (a .content) (p .fits-content)
+pub reply-as-nothing : (a : Answer) → AnswerParts a → HeardAsNothing (a .letter) (behindLetter a)
+reply-as-nothing a p = by-content (a .letter) (a .address) (a .identifier) (a .mark) (p .is-letter) (p .is-address) (p .is-identifier) (a .content) (p .fits-content)

@@ -1,5 +1,5 @@
-//! Document 01's table of types once more, and the messages that some characters can spell. It is written from the
-//! paper for this test, so that neither side is asked what it should have heard.
+//! Document 01's table of types and its rules on opening and closing once more, and the messages that some characters
+//! can spell. It is written from the paper for this test, so that neither side is asked what it should have heard.
 
 /// The parts of a message, as the writer is asked for them.
 #[derive(Clone, Copy, Debug, PartialEq, Eq, Hash)]
@@ -72,6 +72,48 @@ fn read_data(message: Message, data: &[u8]) -> Read {
 
 fn value(digits: &[u8]) -> u32 {
     digits.iter().fold(0, |number, digit| number * 10 + u32::from(digit - b'0'))
+}
+
+/// "A message holds at most 10 characters before `*`".
+const MOST: usize = 10;
+
+/// The characters of an open message, none where there is none.
+#[derive(Clone, Copy, Default)]
+pub(crate) struct Open {
+    characters: [u8; MOST],
+    length: usize,
+}
+
+impl Open {
+    /// Takes a word, and gives the message that it closes, where that is well formed.
+    pub(crate) fn take(&mut self, word: u16) -> Option<Message> {
+        let byte = u8::try_from(word).ok().filter(|byte| byte.count_ones() % 2 == 0);
+        match (self.length, byte.map(|byte| byte & 0x7F)) {
+            // "With no message open, a word other than `L` or `R` in good parity is dropped."
+            (0, Some(letter @ (b'L' | b'R'))) => self.add(letter),
+            (0, _) => {}
+            // "a byte in bad parity, or 256, drops the message"
+            (_, None) => self.length = 0,
+            (_, Some(b'*')) => return self.close(),
+            // "an eleventh drops the message and is itself used up"
+            (MOST, _) => self.length = 0,
+            (_, Some(character)) => self.add(character),
+        }
+        None
+    }
+
+    fn add(&mut self, character: u8) {
+        self.characters[self.length] = character;
+        self.length += 1;
+    }
+
+    fn close(&mut self) -> Option<Message> {
+        let length = std::mem::take(&mut self.length);
+        match read(&self.characters[..length]) {
+            Read::Whole(message) => Some(message),
+            Read::Part | Read::Wrong => None,
+        }
+    }
 }
 
 /// Each alphabet has these characters and one set of [`DIGITS`]: both letters, all signs, a plain identifier, and a

@@ -5,7 +5,7 @@ use Rattle.demands.proofs.demands.Tie as tie
 use Rattle.demands.specs.Demand2.{Demand2}
 use Rattle.demands.specs.BusCases.{Bus}
 use Rattle.demands.specs.Demands.{Demands}
-use Rattle.demands.proofs.Cases.{bench, more, zeros-first, zeros-second, twenty-heard, forms, scan, no-replies}
+use Rattle.demands.proofs.Cases.{bench, more, zeros-first, zeros-second, twenty-heard, normal-forms, scan, no-replies}
 use Rattle.demands.proofs.BusCases.{bus-tables, not-empty}
 use Rattle.demands.proofs.Refusals.{demand-1}
 use Rattle.demands.proofs.Words.{writers-heard, run-steps}
@@ -53,7 +53,7 @@ all-hold = record {
   twenty-heard = twenty-heard;
   zeros-first = zeros-first;
   zeros-second = zeros-second;
-  forms = forms;
+  normal-forms = normal-forms;
   scan = scan;
   no-replies = no-replies;
 }
