@@ -1,3 +1,4 @@
 pub mod Result
 pub mod Rows
 pub mod Calls
+pub mod Models

@@ -35,6 +35,7 @@ use reply::Reading;
 
 mod asking;
 mod many;
+mod model;
 
 // ---- results
 
@@ -46,7 +47,7 @@ pub(crate) fn minus_number(refusal: Refusal) -> i64
 }
 
 // A count; no buffer has more than the greatest i64.
-fn count_result(n: usize) -> i64
+pub(crate) fn count_result(n: usize) -> i64
     ensures { λ r. ⌜ r ≡ countResult n ⌝ }
 {
     if n <= 9223372036854775807 {
@@ -71,7 +72,7 @@ fn result(answer: Written) -> i64
 const ANSWER: usize = 15;
 
 // The numbers at the front of a row.
-fn copy(numbers: &[i32], out: &mut [i32])
+pub(crate) fn copy(numbers: &[i32], out: &mut [i32])
     requires { ⌜ length (now numbers) ≤ length (now out) ⌝ }
     ensures { λ _. ⌜ now (out .exit) ≡ laid (now (numbers .entry)) (now (out .entry)) ⌝ }
 {

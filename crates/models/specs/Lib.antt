@@ -3,3 +3,4 @@ pub mod Dcp100Controller
 pub mod Dcp100Programmer
 pub mod Udi1500
 pub mod Scans
+pub mod Model

@@ -27,7 +27,7 @@ use Rattle.card.specs.declared.Card.{Card}
 use Rattle.row.specs.Row.{isByte, isRow, byteOr, byteOf, bytesIn, offerOf, setupOf, pendingOf, cardOf, pendingRow, offerRow, changing, storedIn}
 use Rattle.row.proofs.Laws.{bytes-length, setup-same, pending-length, offer-length, stored-length, changing-length, stored-placed, stored-parts}
 
-is-byte : (n : ℕ) → n < 256 → isByte (pos n) ≡ true
+pub is-byte : (n : ℕ) → n < 256 → isByte (pos n) ≡ true
 unfolding isByte inRange
 is-byte n h = and-both (le-leb 0 n (omega arith)) (le-leb n 255 (omega arith))
 
