@@ -36,6 +36,7 @@ use reply::Reading;
 mod asking;
 mod many;
 mod model;
+mod tracing;
 
 // ---- results
 
@@ -330,7 +331,7 @@ pub(crate) fn put_counts(words: usize, bytes: usize, counts: &mut [u64])
 }
 
 // A run's answer as a result; when the run is served, the card is stored back, and the words taken and bytes written are counted.
-fn ran(run: Ran, row: &mut [i32], counts: &mut [u64]) -> i64
+pub(crate) fn ran(run: Ran, row: &mut [i32], counts: &mut [u64]) -> i64
     requires { ⌜ 2 ≤ length (now counts) ⌝ }
     ensures { λ r. ⌜ ((values : List ℤ) (out : List ℕ) → manyWords r (now (row .exit)) values out (now (counts .exit)) ≡ runOn (now (row .entry)) (now (counts .entry)) (runAfter run values out)) ⌝ }
 {
