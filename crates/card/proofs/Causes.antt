@@ -8,7 +8,7 @@ use native.Mathlib.Omega.{arith}
 use lib.Dec.{eqb}
 use lib.IntN.{ℤ, pos}
 use lib.ListN.{getD}
-use Rattle.refusal.specs.Check.{first}
+use Rattle.refusal.specs.Check.{Check, first}
 use Rattle.message.specs.declared.Parsed.{Parsed}
 use Rattle.message.specs.declared.Parsed.the-variants.{Heard, Unheard}
 use Rattle.message.specs.declared.Message.{Message}
@@ -28,12 +28,13 @@ use Rattle.act.specs.declared.Offer.{Offer}
 use Rattle.act.specs.declared.Effect.{Effect}
 use Rattle.act.specs.declared.causes.Cause.the-variants.{NotForThisCard, NoMessageClosed, NotWellFormed}
 use Rattle.act.specs.Cause.{Why, whyOf, isFor, because, causesOfN, silences, isOneOf}
-use Rattle.act.specs.Act.{causesIn}
+use Rattle.act.specs.Act.{causesWith, causesIn}
 use Rattle.act.specs.Inner.{scanCauses, rowCauses}
 use Rattle.act.proofs.Fits.{cause-other, Fits, fits-silence, act-fits}
 use Rattle.card.specs.declared.Card.{Card}
 use Rattle.card.specs.Turn.{effectOf}
 use Rattle.card.specs.Cause.{whyClosed, whyAfter, whyTo}
+use Rattle.card.specs.Inner.{whyBy}
 
 module _ (bench maker : List ℤ) where
   -- ---- a closed message
@@ -43,22 +44,38 @@ module _ (bench maker : List ℤ) where
     unfolding whyClosed
     closed-unheard h = ap (whyClosed bench maker s o values cs) (sym h)
 
-    module _ (m : Message) (h : p ≡ Heard m) where
-      pub closed-heard : whyClosed bench maker s o values cs p ≡ because (first (causesIn bench maker s o values m))
-      unfolding whyClosed
-      closed-heard = ap (whyClosed bench maker s o values cs) h
+    pub closed-heard : (m : Message) → p ≡ Heard m → whyClosed bench maker s o values cs p ≡ because (first (causesIn bench maker s o values m))
+    unfolding whyClosed
+    closed-heard m h = ap (whyClosed bench maker s o values cs) h
 
-      pub closed-scan : eqb (m .identifier) scanIdentifier ≡ true → because (first (scanCauses s m)) ≡ whyClosed bench maker s o values cs p
-      unfolding causesIn
-      closed-scan q = sym (closed-heard ∙ rw q)
+    -- by an index of the sheets
+    module _ (places : List ℕ) where
+      abbrev tests : Message → List Check
+      tests = causesWith s o (entryAt bench maker places) (λ (i : ℕ). getD values i (pos 0))
 
-      -- under sound sheets the index gives the entries
-      pub closed-row : (places : List ℕ) → soundSheet bench ≡ true → soundSheet maker ≡ true → places ≡ indexOf bench maker → eqb (m .identifier) scanIdentifier ≡ false
-          → because (first (rowCauses s o (entryAt bench maker places) (λ (i : ℕ). getD values i (pos 0)) m)) ≡ whyClosed bench maker s o values cs p
-      unfolding causesIn
-      closed-row places b k e q =
+      pub by-unheard : p ≡ Unheard → whyOf (NotWellFormed (position cs)) ≡ whyBy tests cs p
+      unfolding whyBy
+      by-unheard h = ap (whyBy tests cs) (sym h)
+
+      module _ (m : Message) (h : p ≡ Heard m) where
+        pub by-scan : eqb (m .identifier) scanIdentifier ≡ true → because (first (scanCauses s m)) ≡ whyBy tests cs p
+        unfolding whyBy
+        by-scan q = sym (ap (whyBy tests cs) h ∙ rw q)
+
+        pub by-row : eqb (m .identifier) scanIdentifier ≡ false → because (first (rowCauses s o (entryAt bench maker places) (λ (i : ℕ). getD values i (pos 0)) m)) ≡ whyBy tests cs p
+        unfolding whyBy
+        by-row q = sym (ap (whyBy tests cs) h ∙ rw q)
+
+      by-sheets : (q : Parsed) → whyBy (causesWith s o (entryIn bench maker) (λ (i : ℕ). getD values i (pos 0))) cs q ≡ whyClosed bench maker s o values cs q
+      unfolding whyBy whyClosed causesIn
+      by-sheets (Heard m) = refl
+      by-sheets Unheard = refl
+
+      -- under sound sheets their own index gives the entries
+      pub by-index : soundSheet bench ≡ true → soundSheet maker ≡ true → places ≡ indexOf bench maker → whyBy tests cs p ≡ whyClosed bench maker s o values cs p
+      by-index b k e =
           let each : (i : ℕ) → entryAt bench maker places i ≡ entryIn bench maker i = λ i. ap (λ (l : List ℕ). entryAt bench maker l i) e ∙ index-entry bench maker i b k in
-          (λ j. because (first (rowCauses s o (λ (i : ℕ). each i j) (λ (i : ℕ). getD values i (pos 0)) m))) ∙ sym (closed-heard ∙ rw q)
+          (λ j. whyBy (causesWith s o (λ (i : ℕ). each i j) (λ (i : ℕ). getD values i (pos 0))) cs p) ∙ by-sheets p
 
   -- ---- a word by what it does
 

@@ -5,5 +5,6 @@ pub mod Steps
 pub mod Settled
 pub mod Runs
 pub mod Plays
+pub mod Taking
 pub mod Said
 pub mod Revised

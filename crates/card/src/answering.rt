@@ -11,10 +11,11 @@ ghost use Rattle.hearing.specs.Hearing.{openOf};
 ghost use Rattle.sheet.specs.Sheet.{soundSheet};
 ghost use Rattle.sheet.specs.Inner.{indexOf, entryAt};
 ghost use Rattle.act.specs.Cause.{whyOf};
+ghost use Rattle.act.specs.Act.{causesWith};
 ghost use Rattle.act.specs.Inner.{onScan, onRow};
 ghost use Rattle.card.specs.Turn.{replyOf, effectOf, turned, stored, play};
 ghost use Rattle.card.specs.Cause.{whyClosed};
-ghost use Rattle.card.specs.Inner.{settles, isScan, effectBy};
+ghost use Rattle.card.specs.Inner.{settles, isScan, effectBy, whyBy};
 ghost use Rattle.card.specs.Calls.{stepAfter, answered, runAfter, ended};
 use crate::Card;
 use crate::Ran;
@@ -92,8 +93,30 @@ pub fn effect_of<'a>(
     act::on_row(setup, offer, bench, maker, places, values, message)
 }
 
-// Why a closed message isn't accepted, at a card with this setup and offer; `pending` holds its characters. `places` is the index of the
+// Why a closed message isn't accepted, at a card with this setup and offer; `pending` holds its characters. `places` is an index of the
 // two sheets.
+pub fn cause_by<'a>(
+    setup: Setup,
+    offer: Offer,
+    bench: &'a [i32],
+    maker: &'a [i32],
+    places: &[usize],
+    values: &[i32],
+    pending: Pending,
+    parsed: Parsed,
+) -> Cause
+    ensures { λ r. ⌜ whyOf r ≡ whyBy (causesWith setup offer (entryAt (now (bench .entry)) (now (maker .entry)) (now (places .entry))) (λ i. getD (now (values .entry)) i (pos 0))) (openOf pending) parsed ⌝ }
+{
+    let Parsed::Heard(message) = parsed else {
+        return Cause::NotWellFormed(pending.position());
+    };
+    if message.identifier == reply::SCAN {
+        return act::causes::scan_cause(setup, message);
+    }
+    act::causes::row_cause(setup, offer, bench, maker, places, values, message)
+}
+
+// The same with the index of two sound sheets.
 fn cause_of<'a>(
     setup: Setup,
     offer: Offer,
@@ -107,13 +130,7 @@ fn cause_of<'a>(
     requires { ⌜ (soundSheet (now bench) ≡ true) × (soundSheet (now maker) ≡ true) × (now places ≡ indexOf (now bench) (now maker)) ⌝ }
     ensures { λ r. ⌜ whyOf r ≡ whyClosed (now (bench .entry)) (now (maker .entry)) setup offer (now (values .entry)) (openOf pending) parsed ⌝ }
 {
-    let Parsed::Heard(message) = parsed else {
-        return Cause::NotWellFormed(pending.position());
-    };
-    if message.identifier == reply::SCAN {
-        return act::causes::scan_cause(setup, message);
-    }
-    act::causes::row_cause(setup, offer, bench, maker, places, values, message)
+    cause_by(setup, offer, bench, maker, places, values, pending, parsed)
 }
 
 // The one write to the values.
@@ -179,7 +196,13 @@ pub(crate) fn answer<'a>(
 }
 
 // Where a run has come.
-fn so_far(setup: Setup, offer: Offer, chars: [u8; hearing::MOST], halt: Halt, bytes: usize) -> Ran
+pub fn so_far(
+    setup: Setup,
+    offer: Offer,
+    chars: [u8; hearing::MOST],
+    halt: Halt,
+    bytes: usize,
+) -> Ran
     ensures { λ r. ⌜ r ≡ record { card = record { setup = setup; pending = record { chars = chars; len = halt .len }; offer = offer }; answer = RunAnswer.Took (halt .at) bytes } ⌝ }
 {
     let pending = Pending {

@@ -1,5 +1,7 @@
--- A trace by its tests: the numbers of a run, then room for the notes; and a trace is a run with notes. Assumes nothing.
+-- A trace by its tests: the numbers of a run, then room for the notes; a trace is a run with notes, and a note is what the single word's call
+-- answers. Assumes nothing.
 use mathlib.Core.Path.{_≡_, sym, ap, _∙_}
+use mathlib.Core.Bool.{true, false, false≢true}
 use mathlib.Core.List.{List, [], _∷_}
 use Prim.Native.Nat.{ℕ, _*_, _<_, _≤_}
 use borrow.Author.Tests.{lt-ltb, le-ltb, ltb-true, ltb-false}
@@ -9,12 +11,19 @@ use lib.ListN.{length}
 use Rattle.refusal.specs.Refusal.{refused, gave}
 use Rattle.refusal.specs.Check.{first}
 use Rattle.refusal.proofs.Logic.{by-test}
-use Rattle.refusal.proofs.Checks.{refused-gave, first-holds, first-passes, first-none, append-refused, append-passed, by-first}
+use Rattle.refusal.proofs.Checks.{refused-gave, gave-is, first-holds, first-passes, first-none, append-refused, append-passed, by-first}
+use Rattle.hearing.specs.Hearing.{actionOf}
+use Rattle.hearing.specs.Inner.{closes}
+use Rattle.act.specs.declared.causes.Cause.the-variants.{NoMessageClosed}
+use Rattle.act.specs.Cause.{whyOf}
 use Rattle.card.specs.declared.Card.{Card}
-use Rattle.card.specs.Turn.{play}
+use Rattle.card.specs.Turn.{turn, Instrument, play}
+use Rattle.card.specs.Cause.{whyTo}
 use Rattle.card.specs.Refusals.{cardChecks}
-use Rattle.card.specs.Calls.{runCall, ended}
-use Rattle.card.proofs.Steps.{run-refused, run-served}
+use Rattle.card.specs.Calls.{After, WordAnswer, bytesOf, stepCall, runCall, ended}
+use Rattle.card.proofs.Steps.{served-step, run-refused, run-served}
+use Rattle.card.proofs.Causes.{why-none}
+use Rattle.trace.specs.Notes.{noteTo}
 use Rattle.trace.specs.Calls.{notesCheck, traceChecks, TraceAfter, unnoted, noted, notesIn, traceCall}
 
 module _ (c : Card) (bench maker values : List ℤ) (ws notes : List ℕ) where
@@ -59,3 +68,18 @@ module _ (c : Card) (bench maker values : List ℤ) (ws notes : List ℕ) where
         by-first (cardChecks c bench maker values ws)
         (λ n r. ap (λ (a : TraceAfter). a .run) (call-refused n (trace-refused n r)) ∙ sym (run-refused c bench maker values ws out n r))
         (λ p. ap (λ (a : TraceAfter). a .run) (call-served (notes-enough p h)) ∙ sym (run-served c bench maker values ws out p))
+
+-- a note is what the single word's call would have answered there
+pub note-is-step : (bench maker : List ℤ) (i : Instrument) (k w : ℕ) (out : List ℕ) (a : WordAnswer) → stepCall (i .card) bench maker (i .values) w out .outcome ≡ gave a
+    → closes (actionOf (i .card .pending) w) ≡ true → noteTo bench maker i k w ≡ record { at = k; characters = i .card .pending .len; bytes = a .bytes; cause = a .cause } ∷ []
+unfolding noteTo
+note-is-step bench maker i k w out a e c =
+    let s = served-step (i .card) bench maker (i .values) w out (a .bytes) (ap bytesOf e) in
+    let answer : a ≡ record { bytes = length (turn bench maker (i .card) (i .values) w .reply); cause = whyTo bench maker (i .card) (i .values) w } = gave-is (sym e ∙ ap (λ (x : After WordAnswer). x .outcome) (s .leaves)) in
+    rw c (ap (λ (x : WordAnswer). record { at = k; characters = i .card .pending .len; bytes = x .bytes; cause = x .cause } ∷ []) (sym answer))
+
+-- and a word that closes no message is not noted, whose cause there is that none was closed
+pub open-is-step : (bench maker : List ℤ) (i : Instrument) (k w : ℕ) → closes (actionOf (i .card .pending) w) ≡ false → (noteTo bench maker i k w ≡ []) × (whyTo bench maker (i .card) (i .values) w ≡ whyOf NoMessageClosed)
+unfolding noteTo
+open-is-step bench maker i k w o =
+    (rw o, why-none bench maker (i .card) (i .values) w (λ e. false≢true (sym o ∙ ap closes e)))

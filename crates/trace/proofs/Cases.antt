@@ -5,7 +5,7 @@ use lib.Count.{ones, onesIn}
 use Prim.Native.Nat.{ℕ, _*_}
 use Prim.Native.Char.{code}
 use lib.IntN.{ℤ, pos}
-use lib.ListN.{length, take, set, replicate}
+use lib.ListN.{take, set, replicate}
 use Rattle.refusal.specs.Lists.{every}
 use Rattle.refusal.specs.Buffer.{laid}
 use Rattle.refusal.specs.Refusal.{Outcome, refused, gave}

@@ -3,7 +3,7 @@
 use mathlib.Core.Path.{_≡_, refl, sym, ap, subst, _∙_}
 use mathlib.Core.Bool.{true, false, false≢true}
 use mathlib.Core.List.{List, [], _∷_, _++_}
-use Prim.Native.Nat.{ℕ, suc, _+_, _-_, _*_, _≤_, _<_}
+use Prim.Native.Nat.{ℕ, _+_, _-_, _*_, _≤_, _<_}
 use native.Mathlib.Numerals.{add-one}
 use native.Mathlib.Omega.{arith}
 use borrow.Author.Tests.{le-leb}
@@ -17,16 +17,18 @@ use Rattle.message.specs.Prefix.{parse}
 use Rattle.hearing.specs.declared.Pending.{Pending}
 use Rattle.hearing.specs.declared.Action.{Action}
 use Rattle.hearing.specs.declared.Action.the-variants.{Ignore, Open, Add, Close, Drop}
-use Rattle.hearing.specs.Hearing.{openOf, actionOf, hear}
+use Rattle.hearing.specs.Hearing.{none, openOf, actionOf, hear}
 use Rattle.hearing.specs.Inner.{closes, Reached, toClose}
 use Rattle.hearing.proofs.Close.{other-unheard, nil-cons, word-at, reached-in}
+use Rattle.act.specs.declared.Effect.{Effect}
 use Rattle.act.specs.Cause.{Why}
 use Rattle.card.specs.declared.Card.{Card}
 use Rattle.card.specs.Run.{Reaction, Played, stopped, playing}
-use Rattle.card.specs.Turn.{turn, Instrument, hears}
+use Rattle.card.specs.Turn.{replyOf, turn, stored, Instrument, hears}
 use Rattle.card.specs.Cause.{whyClosed, whyAfter, whyTo}
 use Rattle.card.proofs.Runs.{Quiet}
-use Rattle.card.proofs.Plays.{holding}
+use Rattle.card.proofs.Plays.{holding, carriedOut}
+use Rattle.card.proofs.Taking.{standsAt, hears-quiet}
 use Rattle.trace.specs.Notes.{Note, fiveOf, fivesOf, noteTo, noting}
 
 -- ---- words up to one that closes a message
@@ -163,3 +165,16 @@ module _ (bench maker : List ℤ) where
         → noteTo bench maker (record { card = c; values = values }) k w ≡ record { at = k; characters = c .pending .len; bytes = n; cause = y } ∷ []
     unfolding noteTo whyTo
     closing-noted k n y e en ey = rw (e, why-closing (actionOf (c .pending) w) e, en, ey)
+
+  -- what the loop carries, from a message that is answered and noted to the next
+  module _ (total : List Note) (notes₀ ws : List ℕ) (i : Instrument) (room k : ℕ) (notes : List ℕ) (m : ℕ) (c : Noted (hears bench maker) (noteTo bench maker) ws total notes₀ i room k notes m)
+      (e : Effect) (turns : carriedOut i none e ≡ hears bench maker i (getD ws k 0)) (h : k < length ws) where
+    pub noted-goes-on : length (replyOf (e .said)) ≤ room → (room′ : ℕ) → room′ ≡ room - length (replyOf (e .said))
+        → (n : Note) → noteTo bench maker i k (getD ws k 0) ≡ n ∷ [] → m * 5 + 5 ≤ length notes₀ → (notes′ : List ℕ) → notes′ ≡ placed (fiveOf n) (m * 5) notes
+        → (values′ : List ℤ) → values′ ≡ stored (i .values) (e .store) → (r : Reached) → r ≡ toClose none (drop (k + 1) ws) (k + 1)
+        → Noted (hears bench maker) (noteTo bench maker) ws total notes₀ (standsAt (i .card .setup) (e .offer) values′ r) room′ (r .at) notes′ (m + 1)
+    noted-goes-on l room′ z n en fits notes′ ne values′ ve r q =
+        let next = carriedOut i none e .state in
+        let here = note-turned (hears bench maker) (noteTo bench maker) ws total notes₀ i room k notes m c (carriedOut i none e) turns h l n en fits notes′ ne room′ z in
+        subst (λ (v : List ℤ). Noted (hears bench maker) (noteTo bench maker) ws total notes₀ (standsAt (i .card .setup) (e .offer) v r) room′ (r .at) notes′ (m + 1)) (sym ve)
+        (note-reached (hears bench maker) (noteTo bench maker) ws total notes₀ (holding next) (hears-quiet bench maker next) (open-silent next) none room′ (k + 1) notes′ (m + 1) here (omega arith) r q)

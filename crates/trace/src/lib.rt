@@ -1,31 +1,23 @@
 // A run that notes, of every message that it closes, where and how it was answered, and why.
 ghost use mathlib.Core.Path.{_≡_};
 ghost use mathlib.Core.Bool.{true};
-ghost use mathlib.Core.List.{_∷_};
 ghost use Prim.Native.Nat.{_+_, _*_, _≤_};
 ghost use lib.ListN.{length};
 ghost use Rattle.refusal.specs.Refusal.{verdictOf};
 ghost use Rattle.refusal.specs.Buffer.{placed};
 ghost use Rattle.refusal.specs.Check.{first};
-ghost use Rattle.hearing.specs.Hearing.{openOf};
 ghost use Rattle.sheet.specs.Sheet.{soundSheet};
-ghost use Rattle.sheet.specs.Inner.{indexOf};
 ghost use Rattle.act.specs.Cause.{whyOf};
-ghost use Rattle.card.specs.declared.RunAnswer.{RunAnswer};
 ghost use Rattle.card.specs.Turn.{play};
-ghost use Rattle.card.specs.Cause.{whyClosed};
 ghost use Rattle.card.specs.Calls.{ended};
 ghost use Rattle.trace.specs.Notes.{fiveOf};
 ghost use Rattle.trace.specs.Calls.{traceChecks, traceAfter, noted, notesIn, traceCall};
-use act::Offer;
-use act::Setup;
 use act::causes::Cause;
 use card::Card;
 use card::Ran;
 use card::RunAnswer;
-use hearing::Halt;
+use card::answering;
 use hearing::Pending;
-use message::Parsed;
 use refusal::Refusal;
 use refusal::Verdict;
 use refusal::Written;
@@ -61,32 +53,6 @@ pub fn check<'a>(
     }
 }
 
-// Why a closed message isn't accepted, at a card with this setup and offer; `places` is the index of the two sheets. The open message is
-// put together only where the message isn't well formed.
-fn cause_of<'a>(
-    setup: Setup,
-    offer: Offer,
-    bench: &'a [i32],
-    maker: &'a [i32],
-    places: &[usize],
-    values: &[i32],
-    chars: [u8; hearing::MOST],
-    len: usize,
-    parsed: Parsed,
-) -> Cause
-    requires { ⌜ (soundSheet (now bench) ≡ true) × (soundSheet (now maker) ≡ true) × (now places ≡ indexOf (now bench) (now maker)) ⌝ }
-    ensures { λ r. ⌜ whyOf r ≡ whyClosed (now (bench .entry)) (now (maker .entry)) setup offer (now (values .entry)) (openOf (record { chars = chars; len = len })) parsed ⌝ }
-{
-    let Parsed::Heard(message) = parsed else {
-        let pending = Pending { chars, len };
-        return Cause::NotWellFormed(pending.position());
-    };
-    if message.identifier == reply::SCAN {
-        return act::causes::scan_cause(setup, message);
-    }
-    act::causes::row_cause(setup, offer, bench, maker, places, values, message)
-}
-
 // The numbers of a note, from a place on.
 fn put(notes: &mut [u64], from: usize, at: usize, characters: usize, bytes: usize, cause: Cause)
     requires { ⌜ from + 5 ≤ length (now notes) ⌝ }
@@ -97,30 +63,6 @@ fn put(notes: &mut [u64], from: usize, at: usize, characters: usize, bytes: usiz
     notes[from + 2] = bytes as u64;
     notes[from + 3] = act::causes::cause_code(cause) as u64;
     notes[from + 4] = act::causes::cause_position(cause) as u64;
-}
-
-// Where a trace has come.
-fn so_far(
-    setup: Setup,
-    offer: Offer,
-    chars: [u8; hearing::MOST],
-    halt: Halt,
-    bytes: usize,
-    messages: usize,
-) -> Traced
-    ensures { λ r. ⌜ r ≡ record { ran = record { card = record { setup = setup; pending = record { chars = chars; len = halt .len }; offer = offer }; answer = RunAnswer.Took (halt .at) bytes }; messages = messages } ⌝ }
-{
-    let len = halt.len;
-    let pending = Pending { chars, len };
-    let card = Card {
-        setup,
-        pending,
-        offer,
-    };
-    let words = halt.at;
-    let answer = RunAnswer::Took { words, bytes };
-    let ran = Ran { card, answer };
-    Traced { ran, messages }
 }
 
 // The words of a trace that passed, as `card::run` takes them. A message is noted once its reply is written.
@@ -147,24 +89,19 @@ fn take_all<'a>(
     let mut messages = 0;
     while halt.at < words.len() {
         let parsed = hearing::closed(&chars, halt.len);
-        let cause = cause_of(
-            setup,
-            offer,
-            bench,
-            maker,
-            places,
-            values,
+        let open = Pending {
             chars,
-            halt.len,
-            parsed,
-        );
-        let effect = if card::answering::is_scan(parsed) {
-            card::answering::scan_effect(setup, offer, bench, maker, places, values, parsed)
-        } else {
-            card::answering::effect_of(setup, offer, bench, maker, places, values, parsed)
+            len: halt.len,
         };
-        let Written::Wrote(n) = card::answering::settle(effect, values, out, at) else {
-            return so_far(setup, offer, chars, halt, at, messages);
+        let cause = answering::cause_by(setup, offer, bench, maker, places, values, open, parsed);
+        let effect = if answering::is_scan(parsed) {
+            answering::scan_effect(setup, offer, bench, maker, places, values, parsed)
+        } else {
+            answering::effect_of(setup, offer, bench, maker, places, values, parsed)
+        };
+        let Written::Wrote(n) = answering::settle(effect, values, out, at) else {
+            let ran = answering::so_far(setup, offer, chars, halt, at);
+            return Traced { ran, messages };
         };
         put(notes, messages * NOTE, halt.at, halt.len, n, cause);
         offer = effect.offer;
@@ -173,7 +110,8 @@ fn take_all<'a>(
         at += n;
         messages += 1;
     }
-    so_far(setup, offer, chars, halt, at, messages)
+    let ran = answering::so_far(setup, offer, chars, halt, at);
+    Traced { ran, messages }
 }
 
 // Words one after the other, until all are taken or the next reply no longer fits; and of each that closes a message a note.

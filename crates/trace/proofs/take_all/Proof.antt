@@ -8,40 +8,32 @@ use native.Mathlib.Omega.{arith}
 use borrow.Author.Needs.{needs}
 use lib.IntN.{ℤ}
 use lib.ListN.{length, getD, drop}
-use Rattle.refusal.specs.Refusal.{gave, numberOf, outcomeOf}
+use Rattle.refusal.specs.Refusal.{numberOf, outcomeOf}
 use Rattle.message.specs.declared.Parsed.{Parsed}
 use Rattle.message.specs.Prefix.{parse}
-use Rattle.hearing.specs.declared.Halt.{Halt}
-use Rattle.hearing.specs.Hearing.{none, openOf, hear}
+use Rattle.hearing.specs.Hearing.{none, openOf}
 use Rattle.hearing.specs.Inner.{Reached, toClose}
-use Rattle.hearing.proofs.Close.{closing-hears, reached-in, reached-long}
-use Rattle.act.specs.declared.Setup.{Setup}
-use Rattle.act.specs.declared.Offer.{Offer}
+use Rattle.hearing.proofs.Close.{closing-hears}
 use Rattle.act.specs.Cause.{whyOf}
 use Rattle.card.specs.declared.Card.{Card}
+use Rattle.card.specs.declared.Ran.{Ran}
 use Rattle.card.specs.declared.RunAnswer.the-variants.{Took}
-use Rattle.card.specs.Calls.{ended}
+use Rattle.card.specs.Calls.{runAfter, ended}
 use Rattle.card.specs.Cause.{whyClosed}
 use Rattle.card.specs.Run.{Reaction, Played, stopped, playing}
-use Rattle.card.specs.Turn.{Turn, turned, stored, Instrument, hears, play}
+use Rattle.card.specs.Turn.{Instrument, hears, play}
 use Rattle.card.specs.Inner.{Settled}
-use Rattle.card.proofs.Turns.{effects, scan-leads, row-leads, turn-closes}
-use Rattle.card.proofs.Runs.{Quiet, Carried, playedFrom, starts, begins, turned as turned-on, carried-reached, no-room, ends, over}
-use Rattle.card.proofs.Plays.{holding, carriedOut, does, obeys-quiet, hears-obeys}
+use Rattle.card.proofs.Turns.{effects, scan-leads, row-leads}
+use Rattle.card.proofs.Causes.{by-index}
+use Rattle.card.proofs.Runs.{Carried, playedFrom, ends}
+use Rattle.card.proofs.Plays.{holding, carriedOut}
 use Rattle.card.proofs.Settled.{Done, Undone, gave-done, refused-undone}
-use Rattle.trace.specs.declared.Traced.{Traced}
+use Rattle.card.proofs.Taking.{reachedOf, standsAt, Came, came-to, came-long, came-in, hears-quiet, first-taken, first-begins, closed-turns, ended-here, undone-stops, done-goes-on}
 use Rattle.trace.specs.Notes.{Note, noteTo}
 use Rattle.trace.specs.Calls.{traceAfter, noted, notesIn}
-use Rattle.trace.proofs.Notes.{Closes, reached-closes, notedFrom, noted-reached, Noted, note-begins, note-turned, note-over, note-reached, open-silent, closing-noted}
+use Rattle.trace.proofs.Notes.{Closes, reached-closes, notedFrom, noted-reached, Noted, note-begins, note-over, open-silent, closing-noted, noted-goes-on}
 use Rattle.trace.proofs.take_all.Statement.{statement}
 use Rattle.trace.proofs.take_all.Tie as tie
-
--- where the code stands, and the card there
-abbrev reachedOf : List ℕ → Halt → Reached
-reachedOf chars halt = record { pending = record { chars = chars; len = halt .len }; at = halt .at }
-
-abbrev standsAt : Setup → Offer → List ℤ → Reached → Instrument
-standsAt setup offer values r = record { card = record { setup = setup; pending = r .pending; offer = offer }; values = values }
 
 abbrev Inv-loop : tie.InvT-loop
 Inv-loop bench maker values₀ words out₀ notes₀ setup offer₀ chars₀ halt₀ places at₀ messages₀ values out notes offer chars halt at messages =
@@ -85,16 +77,13 @@ module _ (t : tie.After-to-close Inv-loop μ-loop) where
   first = reachedOf (t .to-close .last .0) (t .to-close .result)
 
   is-first : first ≡ toClose (card₀ .pending) words 0
-  is-first = ap₂ reachedOf (t .to-close .ensures .1) (t .to-close .ensures .0)
+  is-first = came-to (card₀ .pending) words 0 _ _ (t .to-close .ensures)
 
   abbrev takes : Instrument → ℕ → Reaction Instrument
   takes = hears bench maker
 
   abbrev writes : Instrument → ℕ → ℕ → List Note
   writes = noteTo bench maker
-
-  quiet : (i : Instrument) → Quiet takes (holding i)
-  quiet = obeys-quiet (does bench maker) takes holding (hears-obeys bench maker)
 
   abbrev begin₀ : Instrument
   begin₀ = record { card = card₀; values = values₀ }
@@ -105,29 +94,22 @@ module _ (t : tie.After-to-close Inv-loop μ-loop) where
   abbrev all : Played Instrument
   all = playedFrom takes out₀ words stand (first .at)
 
-  is-all : play bench maker card₀ values₀ (length out₀) words ≡ all
-  is-all = starts takes out₀ words (holding begin₀) (quiet begin₀) (card₀ .pending) first is-first
-
   abbrev all-notes : List Note
   all-notes = notedFrom takes writes words stand (length out₀) (first .at)
 
   is-all-notes : notesIn bench maker card₀ values₀ (length out₀) words ≡ all-notes
-  is-all-notes = noted-reached takes writes words (holding begin₀) (quiet begin₀) (open-silent bench maker begin₀) (length out₀) (card₀ .pending) 0 first is-first
+  is-all-notes =
+      noted-reached takes writes words (holding begin₀) (hears-quiet bench maker begin₀) (open-silent bench maker begin₀) (length out₀) (card₀ .pending) 0 first is-first
 
   -- nothing more is taken
   stops : (here : Instrument) (out : List ℕ) (at i : ℕ) (notes : List ℕ) (m : ℕ) → Carried takes all out₀ words here out at i → Noted takes writes words all-notes notes₀ here (length out₀ - at) i notes m
-      → playing takes here (length out₀ - at) (drop i words) ≡ stopped here → (r : Traced) → r ≡ record { ran = record { card = here .card; answer = Took i at }; messages = m }
-      → traceAfter r (here .values) out notes ≡ noted (ended (play bench maker card₀ values₀ (length out₀) words) out₀) (notesIn bench maker card₀ values₀ (length out₀) words) notes₀
+      → playing takes here (length out₀ - at) (drop i words) ≡ stopped here → (r : Ran) → r ≡ record { card = here .card; answer = Took i at }
+      → traceAfter (record { ran = r; messages = m }) (here .values) out notes ≡ noted (ended (play bench maker card₀ values₀ (length out₀) words) out₀) (notesIn bench maker card₀ values₀ (length out₀) words) notes₀
   stops here out at i notes m k l e r q =
-      let o = over takes all out₀ words here out at i k e in
       let n = note-over takes writes words all-notes notes₀ here (length out₀ - at) i notes m l e in
-      ap (λ (x : Traced). traceAfter x (here .values) out notes) q
-      ∙ sym (λ j. record {
-        run = record { card = o .0 j .card; outcome = gave (record { words = o .1 j; bytes = o .2 j }); values = o .0 j .values; buffer = o .3 j };
-        messages = n .0 j;
-        notes = n .1 j;
-      })
-      ∙ ap₂ (λ (x : Played Instrument) (y : List Note). noted (ended x out₀) y notes₀) (sym is-all) (sym is-all-notes)
+      let o = ap (λ (x : Ran). runAfter x (here .values) out) q ∙ ended-here bench maker all out₀ words here out at i k e in
+      (λ j. record { run = o j; messages = sym (n .0) j; notes = sym (n .1) j })
+      ∙ ap₂ (λ (x : Played Instrument) (y : List Note). noted (ended x out₀) y notes₀) (sym (first-taken bench maker card₀ values₀ words out₀ first is-first)) (sym is-all-notes)
 
 ten-places : (s : tie.Start Inv-loop μ-loop) → length (s .args .card .pending .chars) ≡ 10
 ten-places s = search needs
@@ -136,10 +118,10 @@ loop-holds : tie.Need-loop-holds Inv-loop μ-loop
 loop-holds c =
     let t = c .before .before in
     let p = card₀ t .pending in (
-      begins (takes t) (out₀ t) (words t) (stand t) (first t .at) (subst (λ (x : Reached). x .at ≤ length (words t)) (sym (is-first t)) (reached-in (words t) p 0 (omega arith) .1)),
+      first-begins (bench t) (maker t) (card₀ t) (values₀ t) (words t) (out₀ t) (first t) (is-first t),
       note-begins (takes t) (writes t) (words t) (notes₀ t) (stand t) (length (out₀ t)) (first t .at) (length (out₀ t) - 0) (omega arith),
       subst (Closes (words t)) (sym (is-first t)) (reached-closes (words t) p 0),
-      ap length (t .to-close .ensures .1) ∙ reached-long (words t) p 0 (ten-places (start t)),
+      came-long p (words t) 0 _ _ (t .to-close .ensures) (ten-places (start t)),
       refl,
     )
 
@@ -156,12 +138,6 @@ module _ (l : tie.At-loop Inv-loop μ-loop) where
 
 slice-aggregate-closed : tie.Need-slice-aggregate-closed Inv-loop μ-loop
 slice-aggregate-closed c = sym (c .before .before .before .loop .inv .3)
-
-cause-of-requires : tie.Need-cause-of-requires Inv-loop μ-loop
-cause-of-requires c κs =
-    let l = c .before .before .before .before .before in
-    let s = start (begin l) .pre in
-    (s .0, s .1, l .before .before .index .ensures)
 
 -- what was closed
 module _ (i : tie.After-is-scan Inv-loop μ-loop) where
@@ -201,22 +177,22 @@ module _ (e : tie.Joined2 Inv-loop μ-loop) where
   is-parsed = e .before .before .before .before .closed .ensures
 
   is-turn : leads ≡ takes (begin at-loop) (here at-loop) word
-  unfolding turned
   is-turn =
       let t = begin at-loop in
       let i = here at-loop in
-      let react : Turn → Reaction Instrument = λ u. record { state = record { card = u .card; values = stored (i .values) (u .store) }; reply = u .reply } in
-      ap (carriedOut i none) (is-effect ∙ ap (effects (bench t) (maker t) (i .card) (i .values)) is-parsed)
-      ∙ ap react (sym (turn-closes (bench t) (maker t) (i .card) (i .values) word _ (closing-hears (i .card .pending) word (at-loop .loop .inv .2 in-words))))
+      closed-turns (bench t) (maker t) i word (e .if2 .effect) (parsed (e .before)) is-effect is-parsed (closing-hears (i .card .pending) word (at-loop .loop .inv .2 in-words))
 
   is-note : (n : ℕ) → n ≡ length (leads .reply)
-      → writes (begin at-loop) (here at-loop) (at-loop .loop .halt .at) word ≡ record { at = at-loop .loop .halt .at; characters = at-loop .loop .halt .len; bytes = n; cause = whyOf (e .before .before .cause-of .result) } ∷ []
+      → writes (begin at-loop) (here at-loop) (at-loop .loop .halt .at) word ≡ record { at = at-loop .loop .halt .at; characters = at-loop .loop .halt .len; bytes = n; cause = whyOf (e .before .before .cause-by .result) } ∷ []
   is-note n en =
       let t = begin at-loop in
       let i = here at-loop in
+      let s = start t .pre in
       closing-noted (bench t) (maker t) (i .card) (i .values) word (at-loop .loop .halt .at) n _ (at-loop .loop .inv .2 in-words)
       (en ∙ ap (λ (r : Reaction Instrument). length (r .reply)) is-turn)
-      (e .before .before .cause-of .ensures ∙ ap (whyClosed (bench t) (maker t) (i .card .setup) (i .card .offer) (i .values) (openOf (i .card .pending))) is-parsed)
+      (e .before .before .cause-by .ensures
+      ∙ by-index (bench t) (maker t) (i .card .setup) (i .card .offer) (i .values) (openOf (i .card .pending)) (parsed (e .before)) _ (s .0) (s .1) (at-loop .before .before .index .ensures)
+      ∙ ap (whyClosed (bench t) (maker t) (i .card .setup) (i .card .offer) (i .values) (openOf (i .card .pending))) is-parsed)
 
 -- what it has come to
 module _ (s : tie.After-settle Inv-loop μ-loop) where
@@ -252,10 +228,9 @@ returns c =
     let e = effect (unsettled (c .before)) in
     let l = at-loop e in
     let t = begin l in
-    ap₂ (λ (v : List ℤ) (b : List ℕ). traceAfter (c .so-far .result) v b (l .loop .notes)) (u .kept) (u .unsaid .leaves)
+    ap₂ (λ (v : List ℤ) (b : List ℕ). traceAfter (record { ran = c .so-far .result; messages = l .loop .messages }) v b (l .loop .notes)) (u .kept) (u .unsaid .leaves)
     ∙ stops t (here l) (l .loop .out) (l .loop .at) (l .loop .halt .at) (l .loop .notes) (l .loop .messages) (l .loop .inv .0) (l .loop .inv .1)
-    (no-room (takes t) (all t) (out₀ t) (words t) (here l) (l .loop .out) (l .loop .at) (l .loop .halt .at) (l .loop .inv .0)
-    (leads e) (is-turn e) (in-words e) (omega (arith, u .unsaid .short, l .loop .inv .0 .filling .long)))
+    (undone-stops (bench t) (maker t) (all t) (out₀ t) (words t) (here l) (l .loop .out) (l .loop .at) (l .loop .halt .at) (l .loop .inv .0) (e .if2 .effect) (is-turn e) (in-words e) _ u)
     (c .so-far .result) (c .so-far .ensures)
 
 -- the message is answered
@@ -301,19 +276,12 @@ module _ (c : tie.After-to-close2 Inv-loop μ-loop) where
   abbrev from : ℕ
   from = at-loop closed .loop .halt .at + 1
 
-  abbrev next : Reached
-  next = reachedOf (c .to-close2 .last .0) (c .to-close2 .result)
-
-  is-next : next ≡ toClose none (drop from text) from
+  came-from : Came none text from (c .to-close2 .last .0) (c .to-close2 .result)
   unfolding none
-  is-next = ap₂ reachedOf (c .to-close2 .ensures .1) (c .to-close2 .ensures .0)
+  came-from = c .to-close2 .ensures
 
-  ten : length (c .to-close2 .last .0) ≡ 10
-  unfolding none
-  ten = ap length (c .to-close2 .ensures .1) ∙ reached-long text none from refl
-
-  behind : from ≤ next .at
-  behind = subst (λ (r : Reached). from ≤ r .at) (sym is-next) (reached-in text none from (omega (arith, in-words closed)) .0)
+  behind : from ≤ c .to-close2 .result .at
+  behind = came-in none text from _ _ came-from (omega (arith, in-words closed)) .0
 
 add-at : tie.Need-add-at Inv-loop μ-loop
 add-at c =
@@ -330,33 +298,22 @@ loop-less : tie.Need-loop-less Inv-loop μ-loop
 loop-less c = omega (arith, in-words (closed c), behind c)
 
 loop-again : tie.Need-loop-again Inv-loop μ-loop
+unfolding none
 loop-again c =
     let k = answered c in
     let e = closed c in
     let l = at-loop e in
     let t = begin l in
-    let i = l .loop .halt .at in
     let s = came (settled k) in
     let d = done k in
     let written = c .before .before .before .before .before .put in
-    let turned-here =
-    turned-on (takes t) (all t) (out₀ t) (words t) (here l) (l .loop .out) (l .loop .at) i (l .loop .inv .0)
-    (leads e) (is-turn e) (in-words e)
-    (s .buffer) (n k) (d .said .count) (omega (arith, room k, l .loop .inv .0 .filling .long)) (d .said .leaves) in
-    let noted-here =
-    note-turned (takes t) (writes t) (words t) (all-notes t) (notes₀ t) (here l) (length (out₀ t) - l .loop .at) i (l .loop .notes) (l .loop .messages) (l .loop .inv .1)
-    (leads e) (is-turn e) (in-words e) (omega (arith, room k, d .said .count, l .loop .inv .0 .filling .long)) _ (is-note e (n k) (d .said .count)) (fits k)
-    (written .last .0) (written .ensures) (length (out₀ t) - (l .loop .at + n k)) (omega (arith, d .said .count)) in
-    let q = quiet t (leads e .state) in
-    let next-here = carried-reached (takes t) (all t) (out₀ t) (words t) (holding (leads e .state)) q none (s .buffer) (l .loop .at + n k) (i + 1) turned-here (next c) (is-next c) in
-    let next-noted =
-    note-reached (takes t) (writes t) (words t) (all-notes t) (notes₀ t) (holding (leads e .state)) q (open-silent (bench t) (maker t) (leads e .state)) none
-    (length (out₀ t) - (l .loop .at + n k)) (i + 1) (written .last .0) (l .loop .messages + 1) noted-here (turned-here .i-in) (next c) (is-next c) in
-    let after : List ℤ → Instrument = λ v. standsAt (card₀ t .setup) (e .if2 .effect .offer) v (next c) in (
-      subst (λ (v : List ℤ). Carried (takes t) (all t) (out₀ t) (words t) (after v) (s .buffer) (l .loop .at + n k) (next c .at)) (sym (d .kept)) next-here,
-      subst (λ (v : List ℤ). Noted (takes t) (writes t) (words t) (all-notes t) (notes₀ t) (after v) (length (out₀ t) - (l .loop .at + n k)) (next c .at) (written .last .0) (l .loop .messages + 1)) (sym (d .kept)) next-noted,
-      subst (Closes (words t)) (sym (is-next c)) (reached-closes (words t) none (i + 1)),
-      ten c,
+    let next = came-to none (text c) (from c) _ _ (came-from c) in (
+      done-goes-on (bench t) (maker t) (all t) (out₀ t) (words t) (here l) (l .loop .out) (l .loop .at) (l .loop .halt .at) (l .loop .inv .0) (e .if2 .effect) (is-turn e) (in-words e) s (n k) d _ next,
+      noted-goes-on (bench t) (maker t) (all-notes t) (notes₀ t) (words t) (here l) (length (out₀ t) - l .loop .at) (l .loop .halt .at) (l .loop .notes) (l .loop .messages) (l .loop .inv .1) (e .if2 .effect) (is-turn e) (in-words e)
+          (omega (arith, room k, d .said .count, l .loop .inv .0 .filling .long)) _ (omega (arith, d .said .count)) _ (is-note e (n k) (d .said .count)) (fits k)
+          (written .last .0) (written .ensures) (s .values) (d .kept) _ next,
+      subst (Closes (words t)) (sym next) (reached-closes (words t) none (from c)),
+      came-long none (text c) (from c) _ _ (came-from c) refl,
       settled k .settle .kept .1 .0 ∙ l .loop .inv .4,
     )
 
@@ -380,7 +337,7 @@ returns-2 c =
 pub take-all-spec : {M : Type 1} → statement M
 take-all-spec = tie.close (tie.spec
     Inv-loop μ-loop (λ c κs. search needs) (λ c κs. search needs) (λ c. search needs) loop-holds slice-aggregate-closed
-    (λ c κs. search needs) cause-of-requires (λ c κs. search needs) (λ c κs. search needs) (λ c κs. search needs)
+    (λ c κs. search needs) (λ c κs. search needs) (λ c κs. search needs) (λ c κs. search needs) (λ c κs. search needs)
     (λ c κs. search needs) (λ c. search needs) (λ c. search needs) (λ c κs. search needs) same-length same-length-2 same-length-3
     returns mul-put put-requires add-to-close (λ c κs. search needs) add-at add-messages loop-less loop-again
     (λ c κs. search needs) same-length-4 same-length-5 same-length-6 returns-2)

@@ -7,7 +7,7 @@ use lib.ListN.{length-set}
 use Rattle.card.specs.declared.RunAnswer.{RunAnswer}
 use Rattle.card.specs.Calls.{runOutcome, runAfter}
 use Rattle.abi.specs.Calls.{ManyWords, runOn}
-use Rattle.abi.specs.Trace.{NotedWords, notedWords, messagesIn}
+use Rattle.abi.specs.Trace.{NotedWords, messagesIn}
 use Rattle.abi.proofs.Laws.{wide-ok}
 use borrow.Author.Needs.{needs}
 use Rattle.abi.proofs.tracing.traced.Statement.{statement}

@@ -1,38 +1,15 @@
--- `card::cause_of` meets its contract: the arm says whether a message was heard, and the index gives the entry. Assumes nothing.
-use mathlib.Core.Path.{ap, _∙_}
-use Prim.Native.Nat.{ℕ}
-use borrow.Author.Tests.{eq-eqb, ne-eqb}
-use Rattle.act.specs.declared.causes.Cause.the-variants.{NotWellFormed}
-use Rattle.act.specs.Cause.{whyOf}
-use Rattle.card.proofs.Causes.{closed-unheard, closed-scan, closed-row}
+-- `card::cause_of` meets its contract: under sound sheets the index gives the entries. Assumes nothing.
+use mathlib.Core.Path.{_∙_}
+use Rattle.card.proofs.Causes.{by-index}
 use borrow.Author.Needs.{needs}
 use Rattle.card.proofs.answering.cause_of.Statement.{statement}
 use Rattle.card.proofs.answering.cause_of.Tie as tie
 
 returns : tie.Need-returns
 returns c =
-    let a = c .before .before .before .before .args in
-    ap (λ (n : ℕ). whyOf (NotWellFormed n)) (c .position .ensures)
-    ∙ closed-unheard (a .bench .now) (a .maker .now) (a .setup) (a .offer) (a .values .now) _ (a .parsed) (c .before .enum-told .given .1)
-
-returns-2 : tie.Need-returns-2
-returns-2 c =
-    let k = c .before .before .before .before in
-    let a = k .before .before .before .args in
-    let m = k .parsed .given in
-    c .scan-cause .ensures
-    ∙ closed-scan (a .bench .now) (a .maker .now) (a .setup) (a .offer) (a .values .now) _ (a .parsed) (m .0 .0) (m .1) (eq-eqb _ _ (c .before .if1 .taken))
-
-returns-3 : tie.Need-returns-3
-returns-3 c =
-    let k = c .before .before .before .before in
-    let s = k .before .before .before in
+    let s = c .before .before in
     let a = s .args in
-    let m = k .parsed .given in
-    c .row-cause .ensures
-    ∙ closed-row (a .bench .now) (a .maker .now) (a .setup) (a .offer) (a .values .now) _ (a .parsed) (m .0 .0) (m .1) (a .places .now) (s .pre .0) (s .pre .1) (s .pre .2) (ne-eqb _ _ (c .before .if1 .left))
+    c .cause-by .ensures ∙ by-index (a .bench .now) (a .maker .now) (a .setup) (a .offer) (a .values .now) _ (a .parsed) (a .places .now) (s .pre .0) (s .pre .1) (s .pre .2)
 
 pub cause-of-spec : {M : Type 1} → statement M
-cause-of-spec = tie.close (tie.spec
-    (λ c. search needs) (λ c. search needs) (λ c κs. search needs) returns (λ c κs. search needs) returns-2 (λ c κs. search needs)
-    returns-3)
+cause-of-spec = tie.close (tie.spec (λ c κs. search needs) returns)

@@ -8,35 +8,26 @@ use native.Mathlib.Omega.{arith}
 use borrow.Author.Needs.{needs}
 use lib.IntN.{ℤ}
 use lib.ListN.{length, getD, drop}
-use Rattle.refusal.specs.Refusal.{gave, numberOf, outcomeOf}
+use Rattle.refusal.specs.Refusal.{numberOf, outcomeOf}
 use Rattle.message.specs.declared.Parsed.{Parsed}
 use Rattle.message.specs.Prefix.{parse}
-use Rattle.hearing.specs.declared.Halt.{Halt}
 use Rattle.hearing.specs.Hearing.{none, openOf, hear}
 use Rattle.hearing.specs.Inner.{Reached, toClose}
-use Rattle.hearing.proofs.Close.{reached-in, reached-hears, reached-long}
-use Rattle.act.specs.declared.Setup.{Setup}
-use Rattle.act.specs.declared.Offer.{Offer}
+use Rattle.hearing.proofs.Close.{reached-hears}
 use Rattle.card.specs.declared.Card.{Card}
 use Rattle.card.specs.declared.Ran.{Ran}
 use Rattle.card.specs.declared.RunAnswer.the-variants.{Took}
 use Rattle.card.specs.Calls.{runAfter, ended}
 use Rattle.card.specs.Run.{Reaction, Played, stopped, playing}
-use Rattle.card.specs.Turn.{Turn, turned, stored, Instrument, hears, play}
+use Rattle.card.specs.Turn.{Instrument, hears, play}
 use Rattle.card.specs.Inner.{Settled}
-use Rattle.card.proofs.Turns.{effects, scan-leads, row-leads, turn-closes}
-use Rattle.card.proofs.Runs.{Carried, playedFrom, starts, begins, turned as turned-on, carried-reached, no-room, ends, over}
-use Rattle.card.proofs.Plays.{holding, carriedOut, does, obeys-quiet, hears-obeys}
+use Rattle.card.proofs.Turns.{effects, scan-leads, row-leads}
+use Rattle.card.proofs.Runs.{Carried, playedFrom, ends}
+use Rattle.card.proofs.Plays.{carriedOut}
 use Rattle.card.proofs.Settled.{Done, Undone, gave-done, refused-undone}
+use Rattle.card.proofs.Taking.{reachedOf, standsAt, Came, came-to, came-long, came-in, first-taken, first-begins, closed-turns, ended-here, undone-stops, done-goes-on}
 use Rattle.card.proofs.answering.take_all.Statement.{statement}
 use Rattle.card.proofs.answering.take_all.Tie as tie
-
--- where the code stands, and the card there
-abbrev reachedOf : List ℕ → Halt → Reached
-reachedOf chars halt = record { pending = record { chars = chars; len = halt .len }; at = halt .at }
-
-abbrev standsAt : Setup → Offer → List ℤ → Reached → Instrument
-standsAt setup offer values r = record { card = record { setup = setup; pending = r .pending; offer = offer }; values = values }
 
 -- a word that is left closes the message
 abbrev Closes : List ℕ → Reached → Type 0
@@ -80,13 +71,10 @@ module _ (t : tie.After-to-close Inv-loop μ-loop) where
   first = reachedOf (t .to-close .last .0) (t .to-close .result)
 
   is-first : first ≡ toClose (card₀ .pending) words 0
-  is-first = ap₂ reachedOf (t .to-close .ensures .1) (t .to-close .ensures .0)
+  is-first = came-to (card₀ .pending) words 0 _ _ (t .to-close .ensures)
 
   abbrev takes : Instrument → ℕ → Reaction Instrument
   takes = hears bench maker
-
-  abbrev begin₀ : Instrument
-  begin₀ = record { card = card₀; values = values₀ }
 
   abbrev stand : Instrument
   stand = standsAt (card₀ .setup) (card₀ .offer) values₀ first
@@ -94,20 +82,16 @@ module _ (t : tie.After-to-close Inv-loop μ-loop) where
   abbrev all : Played Instrument
   all = playedFrom takes out₀ words stand (first .at)
 
-  is-all : play bench maker card₀ values₀ (length out₀) words ≡ all
-  is-all = starts takes out₀ words (holding begin₀) (obeys-quiet (does bench maker) takes holding (hears-obeys bench maker) begin₀) (card₀ .pending) first is-first
-
   begun : Carried takes all out₀ words stand out₀ 0 (first .at)
-  begun = begins takes out₀ words stand (first .at) (subst (λ (x : Reached). x .at ≤ length words) (sym is-first) (reached-in words (card₀ .pending) 0 (omega arith) .1))
+  begun = first-begins bench maker card₀ values₀ words out₀ first is-first
 
   -- nothing more is taken
   stops : (here : Instrument) (out : List ℕ) (at i : ℕ) → Carried takes all out₀ words here out at i → playing takes here (length out₀ - at) (drop i words) ≡ stopped here
       → (r : Ran) → r ≡ record { card = here .card; answer = Took i at } → runAfter r (here .values) out ≡ ended (play bench maker card₀ values₀ (length out₀) words) out₀
   stops here out at i k e r q =
-      let o = over takes all out₀ words here out at i k e in
       ap (λ (x : Ran). runAfter x (here .values) out) q
-      ∙ sym (λ j. record { card = o .0 j .card; outcome = gave (record { words = o .1 j; bytes = o .2 j }); values = o .0 j .values; buffer = o .3 j })
-      ∙ ap (λ (x : Played Instrument). ended x out₀) (sym is-all)
+      ∙ ended-here bench maker all out₀ words here out at i k e
+      ∙ ap (λ (x : Played Instrument). ended x out₀) (sym (first-taken bench maker card₀ values₀ words out₀ first is-first))
 
 returns : tie.Need-returns Inv-loop μ-loop
 returns c =
@@ -125,7 +109,7 @@ loop-holds c =
     let p = card₀ t .pending in (
       begun t,
       subst (Closes (words t)) (sym (is-first t)) (reached-hears (words t) p 0),
-      ap length (t .to-close .ensures .1) ∙ reached-long (words t) p 0 (ten-places (start t)),
+      came-long p (words t) 0 _ _ (t .to-close .ensures) (ten-places (start t)),
       refl,
     )
 
@@ -174,14 +158,10 @@ module _ (e : tie.Joined3 Inv-loop μ-loop) where
       (e .if3 .came)
 
   is-turn : leads ≡ takes (begin at-loop) (here at-loop) (getD (words (begin at-loop)) (at-loop .loop .halt .at) 0)
-  unfolding openOf turned
+  unfolding openOf
   is-turn =
       let t = begin at-loop in
-      let i = here at-loop in
-      let react : Turn → Reaction Instrument = λ u. record { state = record { card = u .card; values = stored (i .values) (u .store) }; reply = u .reply } in
-      ap (carriedOut i none) is-effect
-      ∙ ap (λ (o : Parsed). carriedOut i none (effects (bench t) (maker t) (i .card) (i .values) o)) (e .before .before .closed .ensures)
-      ∙ ap react (sym (turn-closes (bench t) (maker t) (i .card) (i .values) (getD (words t) (at-loop .loop .halt .at) 0) _ (at-loop .loop .inv .1 in-words)))
+      closed-turns (bench t) (maker t) (here at-loop) _ (e .if3 .effect) (parsed (e .before)) is-effect (e .before .before .closed .ensures) (at-loop .loop .inv .1 in-words)
 
 -- what it has come to
 module _ (s : tie.After-settle Inv-loop μ-loop) where
@@ -216,8 +196,7 @@ returns-2 c =
     let t = begin l in
     ap₂ (runAfter (c .so-far2 .result)) (u .kept) (u .unsaid .leaves)
     ∙ stops t (here l) (l .loop .out) (l .loop .at) (l .loop .halt .at) (l .loop .inv .0)
-    (no-room (takes t) (all t) (out₀ t) (words t) (here l) (l .loop .out) (l .loop .at) (l .loop .halt .at) (l .loop .inv .0)
-    (leads e) (is-turn e) (in-words e) (omega (arith, u .unsaid .short, l .loop .inv .0 .filling .long)))
+    (undone-stops (bench t) (maker t) (all t) (out₀ t) (words t) (here l) (l .loop .out) (l .loop .at) (l .loop .halt .at) (l .loop .inv .0) (e .if3 .effect) (is-turn e) (in-words e) _ u)
     (c .so-far2 .result) (c .so-far2 .ensures)
 
 -- the message is answered
@@ -253,19 +232,12 @@ module _ (c : tie.After-to-close2 Inv-loop μ-loop) where
   abbrev from : ℕ
   from = at-loop closed .loop .halt .at + 1
 
-  abbrev next : Reached
-  next = reachedOf (c .to-close2 .last .0) (c .to-close2 .result)
-
-  is-next : next ≡ toClose none (drop from text) from
+  came-from : Came none text from (c .to-close2 .last .0) (c .to-close2 .result)
   unfolding none
-  is-next = ap₂ reachedOf (c .to-close2 .ensures .1) (c .to-close2 .ensures .0)
+  came-from = c .to-close2 .ensures
 
-  ten : length (c .to-close2 .last .0) ≡ 10
-  unfolding none
-  ten = ap length (c .to-close2 .ensures .1) ∙ reached-long text none from refl
-
-  behind : from ≤ next .at
-  behind = subst (λ (r : Reached). from ≤ r .at) (sym is-next) (reached-in text none from (omega (arith, in-words closed)) .0)
+  behind : from ≤ c .to-close2 .result .at
+  behind = came-in none text from _ _ came-from (omega (arith, in-words closed)) .0
 
 add-at : tie.Need-add-at Inv-loop μ-loop
 add-at c =
@@ -277,24 +249,16 @@ loop-less : tie.Need-loop-less Inv-loop μ-loop
 loop-less c = omega (arith, in-words (closed c), behind c)
 
 loop-again : tie.Need-loop-again Inv-loop μ-loop
+unfolding none
 loop-again c =
     let k = answered c in
     let e = closed c in
     let l = at-loop e in
     let t = begin l in
-    let i = l .loop .halt .at in
-    let s = came (settled k) in
-    let d = done k in
-    let turned-here =
-    turned-on (takes t) (all t) (out₀ t) (words t) (here l) (l .loop .out) (l .loop .at) i (l .loop .inv .0)
-    (leads e) (is-turn e) (in-words e)
-    (s .buffer) (n k) (d .said .count) (omega (arith, room k, l .loop .inv .0 .filling .long)) (d .said .leaves) in
-    let next-here =
-    carried-reached (takes t) (all t) (out₀ t) (words t) (holding (leads e .state)) (obeys-quiet (does (bench t) (maker t)) (takes t) holding (hears-obeys (bench t) (maker t)) (leads e .state)) none
-    (s .buffer) (l .loop .at + n k) (i + 1) turned-here (next c) (is-next c) in (
-      subst (λ (v : List ℤ). Carried (takes t) (all t) (out₀ t) (words t) (standsAt (card₀ t .setup) (e .if3 .effect .offer) v (next c)) (s .buffer) (l .loop .at + n k) (next c .at)) (sym (d .kept)) next-here,
-      subst (Closes (words t)) (sym (is-next c)) (reached-hears (words t) none (i + 1)),
-      ten c,
+    let next = came-to none (text c) (from c) _ _ (came-from c) in (
+      done-goes-on (bench t) (maker t) (all t) (out₀ t) (words t) (here l) (l .loop .out) (l .loop .at) (l .loop .halt .at) (l .loop .inv .0) (e .if3 .effect) (is-turn e) (in-words e) (came (settled k)) (n k) (done k) _ next,
+      subst (Closes (words t)) (sym next) (reached-hears (words t) none (from c)),
+      came-long none (text c) (from c) _ _ (came-from c) refl,
       settled k .settle .kept .1 .0 ∙ l .loop .inv .3,
     )
 
