@@ -1,3 +1,4 @@
 pub mod Notes
 pub mod Calls
+pub mod Lengths
 pub mod Cases
