@@ -10,6 +10,7 @@ pub mod Recordings
 pub mod Shortest
 pub mod Neighbours
 pub mod Causes
+pub mod Traces
 pub mod Zeros
 pub mod Pair
 pub mod Picked

@@ -1,4 +1,4 @@
--- The three demands, the neighbours, the causes, both zeros, many cards on one pair, the shortest normal form and the tables of cases, all
+-- The three demands, the neighbours, the causes, the trace, both zeros, many cards on one pair, the shortest normal form and the tables of cases, all
 -- together: what the one function of this crate promises.
 use mathlib.Core.Path.{_≡_}
 use mathlib.Core.Bool.{true}
@@ -14,6 +14,7 @@ use Rattle.demands.specs.Demand3.{Demand3}
 use Rattle.demands.specs.Shortest.{Shortest, RepliesDropped, formCases, passesForm}
 use Rattle.demands.specs.Neighbours.{NeighboursIgnored}
 use Rattle.demands.specs.Causes.{Causes}
+use Rattle.demands.specs.Traces.{Traces}
 use Rattle.demands.specs.Zeros.{Zeros}
 use Rattle.demands.specs.BusCases.{Bus}
 
@@ -23,6 +24,7 @@ pub record Demands : Type 0 where
   pub demand-3 : Demand3
   pub neighbours-ignored : NeighboursIgnored
   pub causes : Causes
+  pub traces : Traces
   pub zeros : Zeros
   pub bus : Bus
   pub shortest : Shortest

@@ -6,6 +6,7 @@ pub mod Demand3
 pub mod Shortest
 pub mod Neighbours
 pub mod Causes
+pub mod Traces
 pub mod Zeros
 pub mod Bus
 pub mod BusRows

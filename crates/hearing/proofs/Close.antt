@@ -15,8 +15,8 @@ use Rattle.message.specs.Prefix.{parse}
 use Rattle.hearing.specs.declared.Pending.{Pending}
 use Rattle.hearing.specs.declared.Action.{Action}
 use Rattle.hearing.specs.declared.Action.the-variants.{Ignore, Open, Add, Close, Drop}
-use Rattle.hearing.specs.Hearing.{most, none, added, openOf, actionOf, perform, hear}
-use Rattle.hearing.specs.Inner.{charsOf, Reached, closes, leftBy, toClose}
+use Rattle.hearing.specs.Hearing.{most, none, added, openOf, actionOf, perform, hear, closes}
+use Rattle.hearing.specs.Inner.{charsOf, Reached, leftBy, toClose}
 
 module _ (p : Pending) (ws : List ℕ) (i : ℕ) where
   -- the next word, and what it does

@@ -19,8 +19,8 @@ use Rattle.message.specs.Message.{star}
 use Rattle.hearing.specs.declared.Pending.{Pending}
 use Rattle.hearing.specs.declared.Action.{Action}
 use Rattle.hearing.specs.declared.Action.the-variants.{Ignore, Open, Add, Close, Drop}
-use Rattle.hearing.specs.Hearing.{most, none, added, opening, continuing, actionOf, perform, hear}
-use Rattle.hearing.specs.Inner.{Reached, closes, leftBy, toClose, isOpening, toLetter, toEnd}
+use Rattle.hearing.specs.Hearing.{most, none, added, opening, continuing, actionOf, perform, hear, closes}
+use Rattle.hearing.specs.Inner.{Reached, leftBy, toClose, isOpening, toLetter, toEnd}
 use Rattle.hearing.proofs.Close.{at-other, word-at, nil-cons}
 
 -- what a word does, by whether a message is open

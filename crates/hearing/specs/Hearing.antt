@@ -1,5 +1,5 @@
 -- Hearing: what one word does to the open message, and the messages heard in a list of words.
-use mathlib.Core.Bool.{cond}
+use mathlib.Core.Bool.{Bool, true, false, cond}
 use mathlib.Core.List.{List, [], _∷_}
 use Prim.Native.Nat.{ℕ, _+_}
 use lib.Dec.{ltb, eqb}
@@ -46,6 +46,14 @@ continuing Nothing = Drop
 -- what a word does
 unfoldable pub actionOf : Pending → ℕ → Action
 actionOf p w = cond (eqb (p .len) 0) (opening (received w)) (continuing (received w))
+
+-- document 01: "`*` closes it"
+abbrev pub closes : Action → Bool
+closes Ignore = false
+closes (Open c) = false
+closes (Add c) = false
+closes Close = true
+closes Drop = false
 
 -- the open message afterwards, and the message heard, if any
 unfoldable pub perform : Pending → Action → Hearing

@@ -1,6 +1,6 @@
 -- Definitions for this crate's loops, and for `take` and `to_close`, by which runs, the normal form and the listing take words. No call of
 -- document 01 and no claim cites any of it.
-use mathlib.Core.Bool.{Bool, true, false, cond}
+use mathlib.Core.Bool.{Bool, false, cond}
 use mathlib.Core.List.{List, [], _∷_}
 use Prim.Native.Nat.{ℕ, _+_}
 use lib.Dec.{eqb}
@@ -15,21 +15,12 @@ use Rattle.message.specs.Prefix.{parse}
 use Rattle.message.specs.Spell.{spell}
 use Rattle.hearing.specs.declared.Pending.{Pending}
 use Rattle.hearing.specs.declared.Action.{Action}
-use Rattle.hearing.specs.declared.Action.the-variants.{Ignore, Open, Add, Close, Drop}
 use Rattle.hearing.specs.declared.Next.{Next}
 use Rattle.hearing.specs.declared.Halt.{Halt}
 use Rattle.hearing.specs.declared.passes.Closing.{Closing}
-use Rattle.hearing.specs.Hearing.{none, openOf, actionOf, perform, hear}
+use Rattle.hearing.specs.Hearing.{none, openOf, actionOf, perform, hear, closes}
 
 -- ---- words taken in place
-
--- `*` to an open message
-abbrev pub closes : Action → Bool
-closes Ignore = false
-closes (Open c) = false
-closes (Add c) = false
-closes Close = true
-closes Drop = false
 
 -- the open message after a word; one that the word closes is left open
 unfoldable pub leftBy : Pending → Action → Pending

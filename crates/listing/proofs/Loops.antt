@@ -14,8 +14,7 @@ use Rattle.refusal.proofs.Calls.{Placed, Unplaced}
 use Rattle.wire.specs.Bytes.{wordOf}
 use Rattle.message.specs.declared.Parsed.{Parsed}
 use Rattle.message.specs.Prefix.{parse}
-use Rattle.hearing.specs.Hearing.{none, openOf, actionOf, hear}
-use Rattle.hearing.specs.Inner.{closes}
+use Rattle.hearing.specs.Hearing.{none, openOf, actionOf, hear, closes}
 use Rattle.hearing.proofs.Close.{other-unheard, closing-hears}
 use Rattle.listing.specs.declared.Progress.{Progress}
 use Rattle.listing.specs.declared.Stop.{Stop}

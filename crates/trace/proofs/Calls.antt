@@ -12,8 +12,7 @@ use Rattle.refusal.specs.Refusal.{refused, gave}
 use Rattle.refusal.specs.Check.{first}
 use Rattle.refusal.proofs.Logic.{by-test}
 use Rattle.refusal.proofs.Checks.{refused-gave, gave-is, first-holds, first-passes, first-none, append-refused, append-passed, by-first}
-use Rattle.hearing.specs.Hearing.{actionOf}
-use Rattle.hearing.specs.Inner.{closes}
+use Rattle.hearing.specs.Hearing.{actionOf, closes}
 use Rattle.act.specs.declared.causes.Cause.the-variants.{NoMessageClosed}
 use Rattle.act.specs.Cause.{whyOf}
 use Rattle.card.specs.declared.Card.{Card}
@@ -69,17 +68,21 @@ module _ (c : Card) (bench maker values : List ℤ) (ws notes : List ℕ) where
         (λ n r. ap (λ (a : TraceAfter). a .run) (call-refused n (trace-refused n r)) ∙ sym (run-refused c bench maker values ws out n r))
         (λ p. ap (λ (a : TraceAfter). a .run) (call-served (notes-enough p h)) ∙ sym (run-served c bench maker values ws out p))
 
--- a note is what the single word's call would have answered there
-pub note-is-step : (bench maker : List ℤ) (i : Instrument) (k w : ℕ) (out : List ℕ) (a : WordAnswer) → stepCall (i .card) bench maker (i .values) w out .outcome ≡ gave a
-    → closes (actionOf (i .card .pending) w) ≡ true → noteTo bench maker i k w ≡ record { at = k; characters = i .card .pending .len; bytes = a .bytes; cause = a .cause } ∷ []
-unfolding noteTo
-note-is-step bench maker i k w out a e c =
-    let s = served-step (i .card) bench maker (i .values) w out (a .bytes) (ap bytesOf e) in
-    let answer : a ≡ record { bytes = length (turn bench maker (i .card) (i .values) w .reply); cause = whyTo bench maker (i .card) (i .values) w } = gave-is (sym e ∙ ap (λ (x : After WordAnswer). x .outcome) (s .leaves)) in
-    rw c (ap (λ (x : WordAnswer). record { at = k; characters = i .card .pending .len; bytes = x .bytes; cause = x .cause } ∷ []) (sym answer))
+module _ (bench maker : List ℤ) (i : Instrument) (k w : ℕ) (out : List ℕ) (a : WordAnswer) (e : stepCall (i .card) bench maker (i .values) w out .outcome ≡ gave a) where
+  -- what the single word's call answers
+  step-answers : a ≡ record { bytes = length (turn bench maker (i .card) (i .values) w .reply); cause = whyTo bench maker (i .card) (i .values) w }
+  step-answers =
+      let s = served-step (i .card) bench maker (i .values) w out (a .bytes) (ap bytesOf e) in
+      gave-is (sym e ∙ ap (λ (x : After WordAnswer). x .outcome) (s .leaves))
 
--- and a word that closes no message is not noted, whose cause there is that none was closed
-pub open-is-step : (bench maker : List ℤ) (i : Instrument) (k w : ℕ) → closes (actionOf (i .card .pending) w) ≡ false → (noteTo bench maker i k w ≡ []) × (whyTo bench maker (i .card) (i .values) w ≡ whyOf NoMessageClosed)
-unfolding noteTo
-open-is-step bench maker i k w o =
-    (rw o, why-none bench maker (i .card) (i .values) w (λ e. false≢true (sym o ∙ ap closes e)))
+  -- a note is what it would have answered there
+  pub note-is-step : closes (actionOf (i .card .pending) w) ≡ true → noteTo bench maker i k w ≡ record { at = k; characters = i .card .pending .len; bytes = a .bytes; cause = a .cause } ∷ []
+  unfolding noteTo
+  note-is-step c =
+      rw c (ap (λ (x : WordAnswer). record { at = k; characters = i .card .pending .len; bytes = x .bytes; cause = x .cause } ∷ []) (sym step-answers))
+
+  -- and a word that closes no message is not noted, whose cause there is that none was closed
+  pub open-is-step : closes (actionOf (i .card .pending) w) ≡ false → (noteTo bench maker i k w ≡ []) × (a .cause ≡ whyOf NoMessageClosed)
+  unfolding noteTo
+  open-is-step o =
+      (rw o, ap (λ (x : WordAnswer). x .cause) step-answers ∙ why-none bench maker (i .card) (i .values) w (λ n. false≢true (sym o ∙ ap closes n)))

@@ -15,8 +15,7 @@ use Rattle.wire.specs.Word.{received}
 use Rattle.message.specs.Message.{isLetter}
 use Rattle.hearing.specs.declared.Pending.{Pending}
 use Rattle.hearing.specs.declared.Action.{Action}
-use Rattle.hearing.specs.Hearing.{most, opening, actionOf}
-use Rattle.hearing.specs.Inner.{closes}
+use Rattle.hearing.specs.Hearing.{most, opening, actionOf, closes}
 use Rattle.hearing.proofs.Sound.{pending-parts}
 use Rattle.card.specs.declared.Card.{Card}
 use Rattle.card.specs.Refusals.{soundCard}

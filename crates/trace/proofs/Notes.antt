@@ -17,8 +17,8 @@ use Rattle.message.specs.Prefix.{parse}
 use Rattle.hearing.specs.declared.Pending.{Pending}
 use Rattle.hearing.specs.declared.Action.{Action}
 use Rattle.hearing.specs.declared.Action.the-variants.{Ignore, Open, Add, Close, Drop}
-use Rattle.hearing.specs.Hearing.{none, openOf, actionOf, hear}
-use Rattle.hearing.specs.Inner.{closes, Reached, toClose}
+use Rattle.hearing.specs.Hearing.{none, openOf, actionOf, hear, closes}
+use Rattle.hearing.specs.Inner.{Reached, toClose}
 use Rattle.hearing.proofs.Close.{other-unheard, nil-cons, word-at, reached-in}
 use Rattle.act.specs.declared.Effect.{Effect}
 use Rattle.act.specs.Cause.{Why}

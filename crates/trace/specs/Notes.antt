@@ -4,8 +4,7 @@ use mathlib.Core.List.{List, [], _∷_, _++_}
 use Prim.Native.Nat.{ℕ, suc}
 use lib.IntN.{ℤ}
 use lib.ListN.{length}
-use Rattle.hearing.specs.Hearing.{actionOf}
-use Rattle.hearing.specs.Inner.{closes}
+use Rattle.hearing.specs.Hearing.{actionOf, closes}
 use Rattle.act.specs.Cause.{Why}
 use Rattle.card.specs.Run.{Reaction}
 use Rattle.card.specs.Cause.{whyTo}

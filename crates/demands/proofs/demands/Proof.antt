@@ -17,6 +17,7 @@ use Rattle.demands.proofs.Recordings.{demand-3}
 use Rattle.demands.proofs.Shortest.{shortest, replies-dropped}
 use Rattle.demands.proofs.Neighbours.{neighbours-ignored}
 use Rattle.demands.proofs.Causes.{causes}
+use Rattle.demands.proofs.Traces.{traces}
 use Rattle.demands.proofs.Zeros.{zeros}
 use Rattle.demands.proofs.Pair.{one-pair, bus-demand-3}
 use Rattle.demands.proofs.Alone.{each-alone}
@@ -44,6 +45,7 @@ all-hold = record {
   demand-3 = demand-3;
   neighbours-ignored = neighbours-ignored;
   causes = causes;
+  traces = traces;
   zeros = zeros;
   bus = bus;
   shortest = shortest;

@@ -8,8 +8,8 @@ use lib.ListN.{set, replicate}
 use Rattle.hearing.specs.declared.Pending.{Pending}
 use Rattle.hearing.specs.declared.Action.{Action}
 use Rattle.hearing.specs.declared.Action.the-variants.{Ignore, Open, Add, Close, Drop}
-use Rattle.hearing.specs.Hearing.{most, none, added, actionOf, perform}
-use Rattle.hearing.specs.Inner.{closes, leftBy, nextOf, charsOf}
+use Rattle.hearing.specs.Hearing.{most, none, added, actionOf, perform, closes}
+use Rattle.hearing.specs.Inner.{leftBy, nextOf, charsOf}
 use Rattle.hearing.proofs.take.Statement.{statement}
 use Rattle.hearing.proofs.take.Tie as tie
 

@@ -14,8 +14,7 @@ use Rattle.refusal.proofs.Calls.{Placed, placed-gave, Unplaced, placed-refused}
 use Rattle.message.specs.Prefix.{parse}
 use Rattle.hearing.specs.declared.Pending.{Pending}
 use Rattle.hearing.specs.declared.Next.{Next}
-use Rattle.hearing.specs.Hearing.{none, openOf, actionOf, hear}
-use Rattle.hearing.specs.Inner.{closes}
+use Rattle.hearing.specs.Hearing.{none, openOf, actionOf, hear, closes}
 use Rattle.hearing.proofs.Close.{left-closed, left-other, left-long}
 use Rattle.listing.specs.declared.Progress.{Progress}
 use Rattle.listing.specs.declared.Stop.the-variants.{Full}
