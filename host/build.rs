@@ -4,7 +4,7 @@
 //! - Feature `archive`: it must exist, otherwise the build fails.
 //! - `../target/staticlib/libmeasure.a` is linked to the benchmark `digits` alone when it exists.
 //!
-//! `cfg(kav_linked)` tells the rest of the crate that the eight functions can be called, `cfg(kav_measured)` that both digit
+//! `cfg(kav_linked)` tells the rest of the crate that the ten functions can be called, `cfg(kav_measured)` that both digit
 //! writers can.
 
 use std::env;

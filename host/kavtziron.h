@@ -1,5 +1,5 @@
 /*
- * The eight functions of the proved archive (libabi.a), for C.
+ * The ten functions of the proved archive (libabi.a), for C.
  *
  * A slice passes as a pointer and then a length, counted in its own numbers. A pointer must be
  * valid for that many numbers, aligned and not null, even with length 0; what can be written must
@@ -52,6 +52,9 @@ extern "C" {
 #define KAV_REPLY 33  /* no reply is longer, in bytes */
 #define KAV_CAUSE 2   /* numbers of a cause */
 #define KAV_LINE 35   /* no line of the listing is longer, in bytes */
+#define KAV_NOTE 5    /* numbers of a note */
+#define KAV_SHEET 384 /* no sheet has more numbers */
+#define KAV_SETUP 7   /* numbers of an instrument's setup */
 #define KAV_SILENCE 256 /* the word for a silence longer than the timeout */
 
 /*
@@ -105,7 +108,24 @@ int64_t kav_run(int32_t *card, size_t card_length,
                 uint64_t *counts, size_t counts_length);
 
 /*
- * The same for several cards on one pair, none to 32, with one pair of sheets for all: cards holds their
+ * The same, and a note of every word taken that closed a message, in order, at the front of notes. A note is five numbers:
+ * the place of that word among the words lent, from 0; how many characters the message had before its '*'; how
+ * many bytes were replied, 0 for silence; and the cause's code and position, as kav_step gives them for that word.
+ * Gives 0, with counts[0] words taken, counts[1] bytes written and counts[2] messages noted.
+ * Refused as kav_run is, and then with 5 where notes has fewer than five numbers for each word lent, or counts is
+ * shorter than three.
+ */
+int64_t kav_trace(int32_t *card, size_t card_length,
+                  const int32_t *bench, size_t bench_length,
+                  const int32_t *maker, size_t maker_length,
+                  int32_t *values, size_t values_length,
+                  const uint16_t *words, size_t words_length,
+                  uint8_t *out, size_t out_length,
+                  uint64_t *notes, size_t notes_length,
+                  uint64_t *counts, size_t counts_length);
+
+/*
+ * The same as kav_run for several cards on one pair, none to 32, with one pair of sheets for all: cards holds their
  * rows back to back, values 128 numbers for each card in the same order. Every word goes to every card,
  * and at most one replies. Where its reply no longer fits in out, no card takes the word; that isn't a
  * refusal. Gives 0, with counts[0] words taken and counts[1] bytes written, whoever wrote them: letter and
@@ -171,6 +191,20 @@ int64_t kav_lookup(const int32_t *bench, size_t bench_length,
                    const int32_t *maker, size_t maker_length,
                    uint8_t identifier,
                    int32_t *row, size_t row_length);
+
+/*
+ * An instrument of the makers' manuals: 1 is the DCP 100 controller, 2 the DCP 100 programmer, 3 the UDI 1500.
+ * Gives the count of its sheet's numbers (168, 132, 114), with these at the front of sheet, its 128 initial values at
+ * the front of values, and at the front of setup seven numbers: its letter, and numbers 16 to 21 of a card, the count of
+ * its scan's identifiers (5, 0, 5) and five of them, 0 behind the count. Lent as the maker's sheet with these values, a card
+ * with this letter and scan, any address from 1 to 99 and either revision isn't refused.
+ * Any other number gives 0 whatever the room, and nothing is written. Refused with 5 where sheet, values or setup is
+ * too short.
+ */
+int64_t kav_model(uint32_t model,
+                  int32_t *sheet, size_t sheet_length,
+                  int32_t *values, size_t values_length,
+                  int32_t *setup, size_t setup_length);
 
 #ifdef __cplusplus
 }

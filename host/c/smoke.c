@@ -1,5 +1,5 @@
 /*
- * The eight functions from C, each of them served and refused. From host/:
+ * The ten functions from C, each of them served and refused. From host/:
  *
  *   gcc -std=c11 -Wall -Wextra -O2 -I. c/smoke.c ../target/staticlib/libabi.a -o c/smoke && c/smoke
  *
@@ -308,6 +308,77 @@ int main(void) {
                           counts, buses[which].counts), buses[which].wanted);
     }
 
+    /*
+     * A trace at a card of the second revision with a message open: 'N' for access, bench case e with a message for another
+     * card between, one that isn't well formed, a Type 4 without its offer, minus zero, and one left open. Then one that stops
+     * at the second reply, and what is refused, which changes nothing.
+     */
+    int32_t traced[KAV_CARD] = {'L', 7, 3, 'L', '7', 'M', [22] = 2};
+    uint64_t notes[64 * KAV_NOTE];
+    uint64_t untouched[64 * KAV_NOTE];
+    for (size_t at = 0; at < 64 * KAV_NOTE; at++) {
+        notes[at] = untouched[at] = 77;
+    }
+    uint64_t noted[4] = {77, 77, 77, 77};
+    values['m'] = 50;
+    length = words_of("+*L07m#00231*R7??*L7mI*L0*L7mI*L7J#00006*L7m", words);
+    check("trace", kav_trace(traced, KAV_CARD, bench, bench_length, maker, 0, values, KAV_VALUES,
+                             words, length, out, sizeof out, notes, length * KAV_NOTE, noted, 4), 0);
+    const uint64_t seven[][KAV_NOTE] = {
+        {1, 4, 10, KAV_CAUSE_ACCESS, 0},
+        {12, 10, 10, KAV_CAUSE_NONE, 0},
+        {17, 4, 0, KAV_CAUSE_OTHER_CARD, 0},
+        {22, 4, 10, KAV_CAUSE_NONE, 0},
+        {25, 2, 0, KAV_CAUSE_NOT_WELL_FORMED, 2},
+        {30, 4, 0, KAV_CAUSE_NO_OFFER, 0},
+        {40, 9, 10, KAV_CAUSE_MINUS_ZERO, 0},
+    };
+    check("words taken", (int64_t)noted[0], (int64_t)length);
+    check_text("replies", out, (int64_t)noted[1], "L7M02311N*L7m00201I*L7m00201A*L7J00001N*");
+    check("messages noted", (int64_t)noted[2], sizeof seven / sizeof *seven);
+    check("the number behind the counts", (int64_t)noted[3], 77);
+    check("notes", memcmp(notes, seven, sizeof seven), 0);
+    check("the numbers behind the notes",
+          memcmp(notes + 7 * KAV_NOTE, untouched, sizeof notes - sizeof seven), 0);
+    check("value", values['m'], 20);
+    check("open characters", traced[2], 3);
+    length = words_of("+*L8??*L7??*", words);
+    check("trace with room for one reply",
+          kav_trace(traced, KAV_CARD, bench, bench_length, maker, 0, values, KAV_VALUES,
+                    words, length, out, 14, notes, length * KAV_NOTE, noted, 3), 0);
+    const uint64_t two[][KAV_NOTE] = {{1, 4, 10, KAV_CAUSE_NONE, 0}, {6, 4, 0, KAV_CAUSE_OTHER_CARD, 0}};
+    check("words taken", (int64_t)noted[0], (int64_t)length - 1);
+    check_text("reply", out, (int64_t)noted[1], "L7m00251A*");
+    check("messages noted", (int64_t)noted[2], sizeof two / sizeof *two);
+    check("notes", memcmp(notes, two, sizeof two), 0);
+    check("open characters", traced[2], 4);
+    const struct {
+        const char *what;
+        size_t card, bench, values, notes, counts;
+        uint16_t word;
+        int64_t wanted;
+    } traces[] = {
+        {"trace with a short card and a part of a sheet", 22, 23, 128, 60, 3, 256, -1},
+        {"trace with a part of a sheet and few values", 23, 23, 127, 60, 3, 256, -2},
+        {"trace with few values and no word", 23, 24, 127, 60, 3, 257, -3},
+        {"trace with no word and short notes", 23, 24, 128, 59, 3, 257, -4},
+        {"trace with short notes", 23, 24, 128, 59, 3, 256, -5},
+        {"trace with short counts", 23, 24, 128, 60, 2, 256, -5},
+    };
+    for (size_t which = 0; which < sizeof traces / sizeof *traces; which++) {
+        uint64_t none[3] = {77, 77, 77};
+        words[0] = 0xAA;
+        words[11] = traces[which].word;
+        check(traces[which].what,
+              kav_trace(traced, traces[which].card, bench, traces[which].bench, maker, 0,
+                        values, traces[which].values, words, 12, out, sizeof out,
+                        notes, traces[which].notes, none, traces[which].counts), traces[which].wanted);
+        check_text("what it replied before", out, 10, "L7m00251A*");
+        check("what it noted before", memcmp(notes, two, sizeof two), 0);
+        check("its counts", memcmp(none, untouched, sizeof none), 0);
+        check("its open characters", traced[2], 4);
+    }
+
     length = words_of("xL07M?*L7J#00006*L07J#00001*L7", words);
     int64_t count = kav_normal_form(words, length, normal, 64);
     for (int64_t at = 0; at < count; at++) {
@@ -362,8 +433,42 @@ int main(void) {
     check("lookup of none", kav_lookup(bench, bench_length, maker, 0, 'z', row, KAV_ROW), 0);
     check("lookup with little room", kav_lookup(bench, bench_length, maker, 0, 'Z', row, 5), -5);
 
+    /* Each instrument: its sheet as the maker's, with its values, serves a card of its letter and scan at both revisions. */
+    const struct {
+        int32_t letter, named;
+        size_t length;
+    } models[] = {{'L', 5, 168}, {'R', 0, 132}, {'L', 5, 114}};
+    int32_t sheet[KAV_SHEET];
+    int32_t initial[KAV_VALUES];
+    int32_t setup[KAV_SETUP];
+    length = words_of("L42??*R42??*", words);
+    for (uint32_t model = 1; model <= 3; model++) {
+        size_t numbers = models[model - 1].length;
+        sheet[numbers] = -77;
+        check("model", kav_model(model, sheet, numbers, initial, KAV_VALUES, setup, KAV_SETUP), (int64_t)numbers);
+        check("the number behind its sheet", sheet[numbers], -77);
+        check("its letter", setup[0], models[model - 1].letter);
+        check("its scan", setup[1], models[model - 1].named);
+        for (int32_t revision = 1; revision <= 2; revision++) {
+            int32_t fresh[KAV_CARD] = {setup[0], 42, [22] = revision};
+            memcpy(fresh + 16, setup + 1, (KAV_SETUP - 1) * sizeof *setup);
+            check("run of a model", kav_run(fresh, KAV_CARD, maker, 0, sheet, numbers, initial, KAV_VALUES,
+                                            words, length, out, sizeof out, counts, 2), 0);
+            check_text("its reply", out, (int64_t)counts[1], setup[0] == 'L' ? "L42?A*" : "R42?A*");
+        }
+    }
+    sheet[0] = initial[0] = setup[0] = -77;
+    check("model 0", kav_model(0, sheet, KAV_SHEET, initial, KAV_VALUES, setup, KAV_SETUP), 0);
+    check("model 4", kav_model(4, sheet, KAV_SHEET, initial, KAV_VALUES, setup, KAV_SETUP), 0);
+    check("model with a short sheet", kav_model(1, sheet, 167, initial, KAV_VALUES, setup, KAV_SETUP), -5);
+    check("model with few values", kav_model(1, sheet, KAV_SHEET, initial, 127, setup, KAV_SETUP), -5);
+    check("model with a short setup", kav_model(1, sheet, KAV_SHEET, initial, KAV_VALUES, setup, 6), -5);
+    check("the sheet of none", sheet[0], -77);
+    check("the values of none", initial[0], -77);
+    check("the setup of none", setup[0], -77);
+
     if (!failed) {
-        puts("smoke: all eight functions answer");
+        puts("smoke: all ten functions answer");
     }
     return failed;
 }

@@ -1,8 +1,18 @@
-//! The eight C functions of the archive, and safe wrappers over slices.
+//! The ten C functions of the archive, and safe wrappers over slices.
 //!
 //! A slice passes as a pointer and then a length, in the order of the parameters; numbers pass as
 //! themselves. Each wrapper has the parameters and the result of its namesake in
 //! [`crate::reference::calls`].
+
+/// Numbers of a card, of an answer, of a note, of an instrument's setup; most numbers of a sheet; values of a card; most bytes
+/// of a reply.
+pub const CARD: usize = 23;
+pub const ANSWER: usize = 15;
+pub const NOTE: usize = 5;
+pub const SETUP: usize = 7;
+pub const SHEET: usize = 384;
+pub const VALUES: usize = 128;
+pub const REPLY: usize = 33;
 
 /// The functions as they are linked.
 pub mod raw {
@@ -36,6 +46,25 @@ pub mod raw {
             words_length: usize,
             out: *mut u8,
             out_length: usize,
+            counts: *mut u64,
+            counts_length: usize,
+        ) -> i64;
+
+        pub fn kav_trace(
+            card: *mut i32,
+            card_length: usize,
+            bench: *const i32,
+            bench_length: usize,
+            maker: *const i32,
+            maker_length: usize,
+            values: *mut i32,
+            values_length: usize,
+            words: *const u16,
+            words_length: usize,
+            out: *mut u8,
+            out_length: usize,
+            notes: *mut u64,
+            notes_length: usize,
             counts: *mut u64,
             counts_length: usize,
         ) -> i64;
@@ -101,6 +130,16 @@ pub mod raw {
             row: *mut i32,
             row_length: usize,
         ) -> i64;
+
+        pub fn kav_model(
+            model: u32,
+            sheet: *mut i32,
+            sheet_length: usize,
+            values: *mut i32,
+            values_length: usize,
+            setup: *mut i32,
+            setup_length: usize,
+        ) -> i64;
     }
 }
 
@@ -165,6 +204,43 @@ pub fn run(
             words.len(),
             out.as_mut_ptr(),
             out.len(),
+            counts.as_mut_ptr(),
+            counts.len(),
+        )
+    }
+}
+
+/// Many words, with a note of each message closed. Minus the number, or 0 with `counts[0]` words taken, `counts[1]` bytes
+/// written and `counts[2]` messages noted, five numbers each.
+#[allow(clippy::too_many_arguments)]
+#[inline]
+pub fn trace(
+    card: &mut [i32],
+    bench: &[i32],
+    maker: &[i32],
+    values: &mut [i32],
+    words: &[u16],
+    out: &mut [u8],
+    notes: &mut [u64],
+    counts: &mut [u64],
+) -> i64 {
+    // SAFETY: as above.
+    unsafe {
+        raw::kav_trace(
+            card.as_mut_ptr(),
+            card.len(),
+            bench.as_ptr(),
+            bench.len(),
+            maker.as_ptr(),
+            maker.len(),
+            values.as_mut_ptr(),
+            values.len(),
+            words.as_ptr(),
+            words.len(),
+            out.as_mut_ptr(),
+            out.len(),
+            notes.as_mut_ptr(),
+            notes.len(),
             counts.as_mut_ptr(),
             counts.len(),
         )
@@ -291,6 +367,24 @@ pub fn lookup(bench: &[i32], maker: &[i32], identifier: u8, row: &mut [i32]) -> 
             identifier,
             row.as_mut_ptr(),
             row.len(),
+        )
+    }
+}
+
+/// An instrument: its sheet, its values at first, and its letter and scan. The count of the sheet's numbers, 0 where there
+/// is no such instrument, or minus 5.
+#[inline]
+pub fn model(model: u32, sheet: &mut [i32], values: &mut [i32], setup: &mut [i32]) -> i64 {
+    // SAFETY: as above.
+    unsafe {
+        raw::kav_model(
+            model,
+            sheet.as_mut_ptr(),
+            sheet.len(),
+            values.as_mut_ptr(),
+            values.len(),
+            setup.as_mut_ptr(),
+            setup.len(),
         )
     }
 }

@@ -7,7 +7,7 @@ use super::card::{self, Card, Offer};
 use super::hearing::{Open, MOST};
 use super::message::{self, Data, Kind, Message};
 use super::scan::{Scan, MOST_NAMED};
-use super::{bus, listing, normal, reply, sheet, Refusal};
+use super::{bus, listing, normal, reply, sheet, trace, Refusal};
 
 /// Letter, address, count of open characters, ten characters, offer or none, its identifier, its
 /// value, count of the scan's identifiers, five identifiers, revision.
@@ -16,6 +16,8 @@ pub const CARD: usize = 23;
 pub const ANSWER: usize = 15;
 /// Code and position.
 pub const CAUSE: usize = 2;
+/// Place of the word, characters of the message, bytes replied, code and position.
+pub const NOTE: usize = 5;
 
 /// What the boundary's reader gives back when it isn't refused: the count of numbers written.
 pub const READ: i64 = ANSWER as i64;
@@ -145,6 +147,42 @@ pub fn run(
         }
         Err(refusal) => refused(refusal),
     }
+}
+
+/// A run that notes each word that closed a message. Minus the number, or 0 with `counts[0]` words taken, `counts[1]`
+/// bytes written and `counts[2]` messages noted. Notes with fewer than five numbers for each word, or counts shorter
+/// than three, are number 5, after all the others.
+#[allow(clippy::too_many_arguments)]
+pub fn trace(
+    card: &mut [i32],
+    bench: &[i32],
+    maker: &[i32],
+    values: &mut [i32],
+    words: &[u16],
+    out: &mut [u8],
+    notes: &mut [u64],
+    counts: &mut [u64],
+) -> i64 {
+    let Some(mut inner) = card_of(card) else {
+        return refused(Refusal::Card);
+    };
+    // As in `run`, what comes before number 5 is found in copies.
+    let (mut held, mut replies) = (values.to_vec(), out.to_vec());
+    let (ran, noted) = match trace::trace(&mut inner, bench, maker, &mut held, words, &mut replies) {
+        Ok(traced) => traced,
+        Err(refusal) => return refused(refusal),
+    };
+    if notes.len() < NOTE * words.len() || counts.len() < 3 {
+        return refused(Refusal::Room);
+    }
+    put_back(card, &inner);
+    values.copy_from_slice(&held);
+    out.copy_from_slice(&replies);
+    for (numbers, note) in notes.chunks_exact_mut(NOTE).zip(&noted) {
+        numbers.copy_from_slice(&note.numbers());
+    }
+    counts[..3].copy_from_slice(&[ran.taken as u64, ran.written as u64, noted.len() as u64]);
+    0
 }
 
 /// Cards' rows back to back, and 128 values for each. Minus the number, or 0 with `counts[0]` words taken and

@@ -1,6 +1,7 @@
 //! Requests 4 and 5: why a word drew `N` or silence.
 //!
-//! Only the single word's call asks for it. A run never does, so what a message does is found without it.
+//! Only the single word's call asks for it, and the trace through that. A run never does, so what a message does is
+//! found without it.
 
 use super::card::Card;
 use super::message::{Data, Kind, Message};

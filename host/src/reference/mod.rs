@@ -1,8 +1,8 @@
 //! Document 01 in plain Rust, and of document 02 requests 1, 2, 4, 5 and 6.
 //!
-//! The typed calls are [`card::step`], [`card::run`], [`bus::run`], [`normal::normal_form`], [`message::write`],
-//! [`reply::read`], [`listing::line`] and [`sheet::lookup`]; [`calls`] has the same over numbers and
-//! slices of numbers, as the C boundary has them.
+//! The typed calls are [`card::step`], [`card::run`], [`trace::trace`], [`bus::run`], [`normal::normal_form`],
+//! [`message::write`], [`reply::read`], [`listing::line`] and [`sheet::lookup`]; [`calls`] has the same over numbers
+//! and slices of numbers, as the C boundary has them.
 
 pub mod bus;
 pub mod calls;
@@ -18,6 +18,7 @@ pub mod scan;
 pub mod sheet;
 #[cfg(test)]
 mod tests;
+pub mod trace;
 
 /// The numbers given back when a call is refused.
 #[derive(Clone, Copy, Debug, PartialEq, Eq, PartialOrd, Ord)]

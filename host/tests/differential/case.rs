@@ -3,7 +3,8 @@
 use kavtziron_host::gen::{Bus, World};
 use std::fmt::{Debug, Display, Write as _};
 
-/// One call with all that is lent. The rooms are filled with a pattern; `counts` and `cause` are lengths.
+/// One call with all that is lent. The rooms are filled with a pattern; `notes`, `counts` and `cause` are lengths.
+/// `Trace` is several calls: the trace, the run of the same words and each of them as a single word.
 /// `Ignored` is several calls: a recording, and what the card hears in it that is for itself, with room for
 /// every reply. `Zeros` is several too: a recording and the same with each minus zero made zero, at both
 /// revisions. In `Bus`, `Single` and `Alone` the world's card is the rows of several back to back, and its values are
@@ -13,6 +14,7 @@ use std::fmt::{Debug, Display, Write as _};
 pub(crate) enum Case {
     Step { world: Lent, word: u16, room: usize, cause: usize },
     Run { world: Lent, words: Vec<u16>, room: usize, counts: usize },
+    Trace { world: Lent, words: Vec<u16>, room: usize, notes: usize, counts: usize },
     Ignored { world: Lent, words: Vec<u16> },
     Zeros { world: Lent, words: Vec<u16> },
     Bus { world: Lent, words: Vec<u16>, room: usize, counts: usize },
@@ -120,6 +122,9 @@ impl Display for Case {
             Case::Run { world, words, room, counts } => {
                 write!(f, "run {world} words={} room={room} counts={counts}", joined(words))
             }
+            Case::Trace { world, words, room, notes, counts } => {
+                write!(f, "trace {world} words={} room={room} notes={notes} counts={counts}", joined(words))
+            }
             Case::Ignored { world, words } => write!(f, "ignored {world} words={}", joined(words)),
             Case::Zeros { world, words } => write!(f, "zeros {world} words={}", joined(words)),
             Case::Bus { world, words, room, counts } => {
@@ -184,6 +189,13 @@ pub(crate) fn parse(line: &str) -> Case {
             Case::Step { world: world(), word: one(text("word")), room: room(), cause: one(text("cause")) }
         }
         "run" => Case::Run { world: world(), words: words(), room: room(), counts: one(text("counts")) },
+        "trace" => Case::Trace {
+            world: world(),
+            words: words(),
+            room: room(),
+            notes: one(text("notes")),
+            counts: one(text("counts")),
+        },
         "ignored" => Case::Ignored { world: world(), words: words() },
         "zeros" => Case::Zeros { world: world(), words: words() },
         "bus" => Case::Bus { world: world(), words: words(), room: room(), counts: one(text("counts")) },
@@ -216,7 +228,9 @@ impl Case {
     pub(crate) fn words(&mut self) -> Option<&mut Vec<u16>> {
         match self {
             Case::Run { words, .. } | Case::NormalForm { words, .. } => Some(words),
-            Case::Ignored { words, .. } | Case::Zeros { words, .. } => Some(words),
+            Case::Trace { words, .. } | Case::Ignored { words, .. } | Case::Zeros { words, .. } => {
+                Some(words)
+            }
             Case::Bus { words, .. } | Case::Single { words, .. } | Case::Alone { words, .. } => Some(words),
             _ => None,
         }

@@ -4,8 +4,10 @@ use crate::alone::alone;
 use crate::case::{Asked, Case, Lent};
 use crate::drawn::{suits, Cause, Zero};
 use crate::drawn_bus::{classes_of, Class};
+use crate::drawn_trace::DrawnTrace;
 use crate::ignored::ignored;
 use crate::side::{Run, SIDES};
+use crate::trace::{compare_trace, Read};
 use crate::zeros::zeros;
 use kavtziron_host::abi;
 use kavtziron_host::reference::calls;
@@ -15,7 +17,7 @@ use std::fmt::Debug;
 const GUARD: usize = 8;
 
 /// A number for each place, never 0 and seldom anything that a call writes.
-trait Pattern: Copy + PartialEq + Debug {
+pub(crate) trait Pattern: Copy + PartialEq + Debug {
     fn at(place: usize) -> Self;
 }
 impl Pattern for u8 {
@@ -41,40 +43,55 @@ impl Pattern for u64 {
 
 /// A buffer between two guards.
 #[derive(Clone, PartialEq, Debug)]
-struct Guarded<T>(Vec<T>);
+pub(crate) struct Guarded<T>(Vec<T>);
 
 impl<T: Pattern> Guarded<T> {
-    fn room(length: usize) -> Guarded<T> {
+    pub(crate) fn room(length: usize) -> Guarded<T> {
         Guarded((0..length + 2 * GUARD).map(T::at).collect())
     }
 
-    fn of(inside: &[T]) -> Guarded<T> {
+    pub(crate) fn of(inside: &[T]) -> Guarded<T> {
         let mut guarded = Guarded::room(inside.len());
         guarded.inside().copy_from_slice(inside);
         guarded
     }
 
-    fn inside(&mut self) -> &mut [T] {
+    pub(crate) fn inside(&mut self) -> &mut [T] {
         let end = self.0.len() - GUARD;
         &mut self.0[GUARD..end]
+    }
+
+    pub(crate) fn seen(&self) -> &[T] {
+        &self.0[GUARD..self.0.len() - GUARD]
     }
 }
 
 fn same<T: Pattern>(what: &str, archive: &Guarded<T>, reference: &Guarded<T>) -> Result<(), String> {
-    if archive == reference {
+    alike(what, ["archive", "reference"], [archive, reference])
+}
+
+/// Two buffers of these names, lent as the same.
+pub(crate) fn alike<T: Pattern>(
+    what: &str,
+    names: [&str; 2],
+    [first, second]: [&Guarded<T>; 2],
+) -> Result<(), String> {
+    if first == second {
         return Ok(());
     }
-    let at = archive.0.iter().zip(&reference.0).position(|(a, b)| a != b).unwrap_or(0);
+    let at = first.0.iter().zip(&second.0).position(|(a, b)| a != b).unwrap_or(0);
     let place = at as isize - GUARD as isize;
     Err(format!(
-        "{what}[{place}] (of {}): archive {:?}, reference {:?}",
-        archive.0.len() - 2 * GUARD,
-        archive.0[at],
-        reference.0[at]
+        "{what}[{place}] (of {}): {} {:?}, {} {:?}",
+        first.0.len() - 2 * GUARD,
+        names[0],
+        first.0[at],
+        names[1],
+        second.0[at]
     ))
 }
 
-fn same_result(archive: i64, reference: i64) -> Result<i64, String> {
+pub(crate) fn same_result(archive: i64, reference: i64) -> Result<i64, String> {
     if archive == reference {
         Ok(archive)
     } else {
@@ -83,17 +100,18 @@ fn same_result(archive: i64, reference: i64) -> Result<i64, String> {
 }
 
 /// What both sides gave: the result, of a served single word the cause and what a Type 3 of zero drew, and of several
-/// cards what the run was like.
+/// cards and of a trace what the run was like.
 pub(crate) struct Agreed {
     pub(crate) result: i64,
     pub(crate) cause: Option<Cause>,
     pub(crate) zero: Option<Zero>,
     pub(crate) classes: Vec<Class>,
+    pub(crate) trace: Option<DrawnTrace>,
 }
 
 impl Agreed {
-    fn on(result: i64) -> Agreed {
-        Agreed { result, cause: None, zero: None, classes: Vec::new() }
+    pub(crate) fn on(result: i64) -> Agreed {
+        Agreed { result, cause: None, zero: None, classes: Vec::new(), trace: None }
     }
 }
 
@@ -105,6 +123,9 @@ pub(crate) fn compare(case: &Case) -> Result<Agreed, String> {
             let ran = compare_runs(world, words, *room, *counts, [abi::bus_run, calls::bus_run])?;
             let classes = classes_of(world, words, *room, &ran);
             Ok(Agreed { classes, ..Agreed::on(ran.result) })
+        }
+        Case::Trace { world, words, room, notes, counts } => {
+            compare_trace(&Read { world, words }, *room, *notes, *counts)
         }
         _ => compare_other(case).map(Agreed::on),
     }
@@ -197,7 +218,9 @@ fn compare_step(world: &Lent, word: u16, room: usize, length: usize) -> Result<A
 /// Gives the result that both gave.
 fn compare_other(case: &Case) -> Result<i64, String> {
     match case {
-        Case::Step { .. } | Case::Bus { .. } => unreachable!("they have functions of their own"),
+        Case::Step { .. } | Case::Bus { .. } | Case::Trace { .. } => {
+            unreachable!("they have functions of their own")
+        }
         Case::Run { world, words, room, counts } => {
             let ran = compare_runs(world, words, *room, *counts, [abi::run, calls::run])?;
             Ok(ran.result)

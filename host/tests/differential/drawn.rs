@@ -2,13 +2,14 @@
 //! they never did is a failure of the tests themselves.
 
 use crate::drawn_bus::DrawnBus;
+use crate::drawn_trace::DrawnTrace;
 use kavtziron_host::gen::on_line;
 
 /// Code and position.
 pub(crate) type Cause = [i32; 2];
 
 /// The codes of requests 4 and 5 in their order. The last alone has a position.
-const CODES: [(i32, &str); 11] = [
+pub(crate) const CODES: [(i32, &str); 11] = [
     (0, "none"),
     (1, "no such identifier"),
     (2, "access"),
@@ -82,9 +83,10 @@ pub(crate) struct Drawn {
     positions: [u64; 10],
     zeros: [u64; ZEROS.len()],
     pub(crate) bus: DrawnBus,
+    pub(crate) trace: DrawnTrace,
 }
 
-fn add<const LENGTH: usize>(sums: &mut [u64; LENGTH], more: &[u64; LENGTH]) {
+pub(crate) fn add<const LENGTH: usize>(sums: &mut [u64; LENGTH], more: &[u64; LENGTH]) {
     sums.iter_mut().zip(more).for_each(|(sum, more)| *sum += more);
 }
 
@@ -106,6 +108,7 @@ impl Drawn {
         add(&mut self.positions, &other.positions);
         add(&mut self.zeros, &other.zeros);
         self.bus.add(&other.bus);
+        self.trace.add(&other.trace);
     }
 
     /// Each cause, position and answer with its count.

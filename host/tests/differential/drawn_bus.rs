@@ -80,8 +80,10 @@ classes! {
 
 const CLASSES: usize = NAMES.len();
 
+pub(crate) use classes;
+
 /// How often each has to be drawn in a whole run of one seed. Of a part that is too small for one nothing is asked.
-const LEAST: u64 = 80;
+pub(crate) const LEAST: u64 = 80;
 
 /// The seven places of the refusals: 1, 8, 2, 1, 3, 4, 5.
 pub(crate) const FAULTS: usize = 7;
@@ -143,15 +145,19 @@ impl DrawnBus {
     /// Prints how often each was drawn. Gives whether all were often enough, in so many seeds, times as many cases,
     /// and this part of them.
     pub(crate) fn print(&self, seeds: u64, times: u64, part: u64) -> bool {
-        let least = LEAST * seeds * times / part;
-        self.lines().for_each(|(what, count)| println!("  bus: {what:38} {count:>9} drawn"));
-        let seldom: Vec<String> = self.lines().filter(|line| line.1 < least).map(|line| line.0).collect();
-        if !seldom.is_empty() {
-            println!("FAILED  drawn fewer than {least} times, of several cards");
-            println!("  {}", seldom.join("; "));
-        }
-        seldom.is_empty()
+        print_often("bus", &self.lines().collect::<Vec<_>>(), LEAST * seeds * times / part)
     }
+}
+
+/// Prints how often each was drawn. Gives whether all were this often.
+pub(crate) fn print_often(of: &str, lines: &[(String, u64)], least: u64) -> bool {
+    lines.iter().for_each(|(what, count)| println!("  {of}: {what:38} {count:>9} drawn"));
+    let seldom: Vec<&str> = lines.iter().filter(|line| line.1 < least).map(|line| &line.0[..]).collect();
+    if !seldom.is_empty() {
+        println!("FAILED  drawn fewer than {least} times, {of}");
+        println!("  {}", seldom.join("; "));
+    }
+    seldom.is_empty()
 }
 
 fn offers(cards: &[i32]) -> usize {

@@ -25,6 +25,8 @@ mod drawn;
 #[cfg(kav_linked)]
 mod drawn_bus;
 #[cfg(kav_linked)]
+mod drawn_trace;
+#[cfg(kav_linked)]
 mod groups;
 #[cfg(kav_linked)]
 mod ignored;
@@ -32,6 +34,8 @@ mod ignored;
 mod running;
 #[cfg(kav_linked)]
 mod side;
+#[cfg(kav_linked)]
+mod trace;
 #[cfg(kav_linked)]
 mod zeros;
 

@@ -190,8 +190,10 @@ pub(crate) fn main() -> ExitCode {
         }
     }
     let drawn = drawn.into_inner().unwrap();
-    let (all, often) = (drawn.print(), drawn.bus.print(seeds.len() as u64, times, part));
-    if !all || !often {
+    let all = drawn.print();
+    let seeds = seeds.len() as u64;
+    let often = [drawn.bus.print(seeds, times, part), drawn.trace.print(seeds, times, part)];
+    if !all || often.contains(&false) {
         return ExitCode::FAILURE;
     }
     println!("differential: {total} cases agree, {:.1} s", start.elapsed().as_secs_f64());

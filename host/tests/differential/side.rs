@@ -7,13 +7,17 @@ use kavtziron_host::reference::message::{Data, Kind, Message};
 
 /// `kav_run` and `kav_bus_run` are lent the same.
 pub(crate) type Run = fn(&mut [i32], &[i32], &[i32], &mut [i32], &[u16], &mut [u8], &mut [u64]) -> i64;
+type Step = fn(&mut [i32], &[i32], &[i32], &mut [i32], u16, &mut [u8], &mut [i32]) -> i64;
+type Trace = fn(&mut [i32], &[i32], &[i32], &mut [i32], &[u16], &mut [u8], &mut [u64], &mut [u64]) -> i64;
 type Write = fn(u8, u32, u8, u8, i32, u32, u32, &mut [u8]) -> i64;
 type NormalForm = fn(&[u16], &mut [u16]) -> i64;
 
 /// One side of the comparison.
 pub(crate) struct Side {
     pub(crate) name: &'static str,
+    pub(crate) step: Step,
     pub(crate) run: Run,
+    pub(crate) trace: Trace,
     pub(crate) bus_run: Run,
     write: Write,
     normal_form: NormalForm,
@@ -22,14 +26,18 @@ pub(crate) struct Side {
 pub(crate) const SIDES: [Side; 2] = [
     Side {
         name: "archive",
+        step: abi::step,
         run: abi::run,
+        trace: abi::trace,
         bus_run: abi::bus_run,
         write: abi::write,
         normal_form: abi::normal_form,
     },
     Side {
         name: "reference",
+        step: calls::step,
         run: calls::run,
+        trace: calls::trace,
         bus_run: calls::bus_run,
         write: calls::write,
         normal_form: calls::normal_form,

@@ -12,6 +12,7 @@ mod neighbours;
 mod refusals;
 mod scan;
 mod sheet;
+mod trace;
 mod zero;
 
 use super::card::{run, step, Card, Stepped};

@@ -140,6 +140,27 @@ impl Lent<'_> {
             assert_eq!((card, values), (self.card.clone(), self.values.clone()));
         }
     }
+
+    fn trace(&self, room: usize, length: usize) {
+        // Notes for the three words, one number short and one long.
+        for (notes, counts) in [(14, length), (15, length), (16, length), (14, length + 1), (15, length + 1)]
+        {
+            let Lent { mut card, bench, maker, mut values, word, first } = self.clone();
+            let wanted = if first == 0 && (notes < 15 || counts < 3) { 5 } else { first };
+            let (mut out, mut notes, mut counts) = (vec![0xEE; room], vec![77; notes], vec![77; counts]);
+            let words = [256, word, 0];
+            let given =
+                calls::trace(&mut card, bench, maker, &mut values, &words, &mut out, &mut notes, &mut counts);
+            assert_eq!(given, -wanted);
+            assert!(out.iter().all(|&byte| byte == 0xEE) && notes.iter().all(|&number| number == 77));
+            let written = if wanted == 0 { 3 } else { 0 };
+            assert_eq!(counts[..written], [3, 0, 0][..written]);
+            assert!(counts[written..].iter().all(|&count| count == 77));
+            if wanted != 0 {
+                assert_eq!((card, values), (self.card.clone(), self.values.clone()));
+            }
+        }
+    }
 }
 
 /// Every set of faults in sheets, values and word, with a card whose faults come `before` or `behind` the sheets.
@@ -173,12 +194,13 @@ fn try_refusals(card: &[i32], before: bool, behind: bool) {
             (0..4).for_each(|length| {
                 lent.step(room, length);
                 lent.run(room, length);
+                lent.trace(room, length);
             });
         }
     }
 }
 
-/// Every refusal, every two and every more of them at once, for the single word and the run.
+/// Every refusal, every two and every more of them at once, for the single word, the run and the trace.
 #[test]
 fn order_of_refusals() {
     let mut open = Open::NONE;

@@ -11,6 +11,7 @@ mod read;
 mod run;
 mod scan;
 mod step;
+mod trace;
 mod write;
 mod zero;
 
@@ -29,6 +30,9 @@ use read::{read_babble, read_edits, read_every, read_random, read_scans};
 use run::{every_data, every_pair, run_in_parts, run_long, run_random, run_rooms, wrong_word_behind};
 use scan::{scan_broken, scan_messages};
 use step::{every_word, refusals, step_random, step_spoiled, step_walk};
+use trace::{
+    trace_in_parts, trace_lengths, trace_long, trace_random, trace_refusals, trace_rooms, trace_spoiled,
+};
 use write::{line_random, line_rooms, minus_zeros_asked, write_random, write_rooms};
 use zero::{revisions, zeros_known, zeros_run, zeros_walk};
 
@@ -82,6 +86,7 @@ impl Bench {
         agreed.cause.into_iter().for_each(|cause| self.drawn.count(cause));
         agreed.zero.into_iter().for_each(|zero| self.drawn.count_zero(zero));
         agreed.classes.iter().for_each(|&class| self.drawn.bus.count(class));
+        agreed.trace.iter().for_each(|trace| self.drawn.trace.add(trace));
         Ok(agreed)
     }
 }
@@ -199,4 +204,11 @@ pub(crate) const GROUPS: &[Group] = &[
     Group { name: "bus: long", numbers: 30, random: true, make: bus_long },
     Group { name: "bus: one card as by run", numbers: 10_000, random: true, make: bus_single },
     Group { name: "bus: each card alone", numbers: 4_000, random: true, make: bus_alone },
+    Group { name: "trace: every set of refusals", numbers: 128 * 200, random: true, make: trace_refusals },
+    Group { name: "trace: random", numbers: 40_000, random: true, make: trace_random },
+    Group { name: "trace: one or two numbers spoiled", numbers: 30_000, random: true, make: trace_spoiled },
+    Group { name: "trace: every length", numbers: 800, random: true, make: trace_lengths },
+    Group { name: "trace: every room", numbers: 1_500, random: true, make: trace_rooms },
+    Group { name: "trace: in parts", numbers: 3_000, random: true, make: trace_in_parts },
+    Group { name: "trace: long", numbers: 100, random: true, make: trace_long },
 ];
