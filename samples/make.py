@@ -84,6 +84,23 @@ def session(n, seed=7):
             words += [r.randrange(257) for _ in range(r.randrange(1, 12))]
     return words[:n]
 
+# collection/: what is sent in each, in order
+COLLECTION = {
+    # what the old emulator got wrong
+    'rounding': ['L7m#00231*', 'L7mI*', 'L7m?*', 'L7m#00491*', 'L7mI*', 'L7m?*'],
+    'negatives': ['L7J#00126*', 'L7JI*', 'L7J?*', 'L7J#00016*', 'L7JI*', 'L7J?*', 'L7J#00996*', 'L7J-*'],
+    'offer-used-twice': ['L7m#00301*', 'L7mI*', 'L7m+*', 'L7mI*', 'L7m?*'],
+    'letter-inside': ['L7L?*', 'L7R?*', 'R7L?*', 'L7ML7M?*', 'L7?L7??*', 'L7L?*'],
+    'range-before-cut': ['L7m#10031*', 'L7m#10001*', 'L7mI*', 'L7J#01026*'],
+    'decimals': ['L7m#00230*', 'L7m#00232*', 'L7m#02302*', 'L7m#00231*', 'L7mI*'],
+    # other cards and other instruments
+    'neighbours': ['L7m#00301*', 'L8??*', 'R7mI*', 'L8m#00501*', 'L7mI*', 'L8mI*'],
+    'controller': ['L7??*', 'L7]?*', 'L7S#04501*', 'L7SI*', 'L7J#00305*', 'L7JI*', 'L7]?*', 'L7M+*', 'L7Z#00030*', 'L7ZI*', 'L7Z?*', 'L7B+*'],
+    'programmer': ['R7??*', 'R7A?*', 'R7A#00170*', 'R7A#00160*', 'R7AI*', 'R7A+*', 'R7C#01302*', 'R7CI*', 'R7]?*', 'L7A?*', 'R7`?*'],
+    'indicator': ['L7]?*', 'L7C#10096*', 'L7CI*', 'L7C-*', 'L7G#00001*', 'L7Z#00150*', 'L7ZI*', 'L7D-*', 'L7]+*'],
+    'pair': ['L7m#00301*', 'R7m#00401*', 'L8m#00501*', 'R7m?*', 'R7mI*', 'L8mI*', 'L7mI*', 'L9??*', 'R8m?*'],
+}
+
 def main():
     if sys.argv[1:2] == ['session']:
         sys.stdout.buffer.write(pack(session(int(sys.argv[2]))))
@@ -95,6 +112,9 @@ def main():
     files['damage.words'] = damage()
     files['zeros.words'] = zeros()
     files['session.words'] = session(6000)
+    for name, messages in COLLECTION.items():
+        files['collection/%s.words' % name] = [w for m in messages for w in line(m)]
+    files['collection/session.words'] = session(1200, seed=11)
     for name, words in files.items():
         with open(os.path.join(here, name), 'wb') as f:
             f.write(pack(words))
