@@ -5,7 +5,7 @@
 //! [`crate::reference::calls`].
 
 /// Numbers of a card, of an answer, of a note, of an instrument's setup; most numbers of a sheet; values of a card; most bytes
-/// of a reply.
+/// of a reply, of a line of the listing.
 pub const CARD: usize = 23;
 pub const ANSWER: usize = 15;
 pub const NOTE: usize = 5;
@@ -13,6 +13,17 @@ pub const SETUP: usize = 7;
 pub const SHEET: usize = 384;
 pub const VALUES: usize = 128;
 pub const REPLY: usize = 33;
+pub const LINE: usize = 35;
+
+/// Places in a card's row: the count of open characters, the first of them, the scan, the revision.
+pub const OPEN: usize = 2;
+pub const CHARACTERS: usize = 3;
+pub const SCAN: std::ops::Range<usize> = 16..22;
+pub const REVISION: usize = 22;
+
+/// Codes of causes: no message closed by this word; the message closed isn't well formed.
+pub const NOT_CLOSED: u64 = 9;
+pub const NOT_WELL_FORMED: u64 = 10;
 
 /// The functions as they are linked.
 pub mod raw {

@@ -56,9 +56,9 @@ mod linked {
 
     /// What a master might have said to this card.
     fn recording(bench: &Bench, length: usize) -> Vec<u16> {
-        let Bench { cards, bench, maker, values, .. } = bench.clone();
+        let Bench { cards: card, bench_sheet: bench, maker_sheet: maker, values, .. } = bench.clone();
         let rows = gen::rows_of(&maker).collect();
-        let world = World { card: cards, bench, maker, values, rows };
+        let world = World { card, bench, maker, values, rows };
         gen::recording(&mut Rng::new(SEED), &world, length, gen::REALISTIC)
     }
 
@@ -96,9 +96,17 @@ mod linked {
         let (mut bare, mut play, mut whole) = (Vec::new(), Vec::new(), Vec::new());
         for _ in 0..ROUNDS {
             bare.push(timed(|| {
-                let Bench { mut cards, bench, maker, mut values, .. } = bench.clone();
+                let Bench { mut cards, bench_sheet, maker_sheet, mut values, .. } = bench.clone();
                 let mut counts = [0; 2];
-                abi::run(&mut cards, &bench, &maker, &mut values, black_box(words), &mut out, &mut counts);
+                abi::run(
+                    &mut cards,
+                    &bench_sheet,
+                    &maker_sheet,
+                    &mut values,
+                    black_box(words),
+                    &mut out,
+                    &mut counts,
+                );
                 assert_eq!(counts[0] as usize, words.len());
             }));
             play.push(timed(|| {

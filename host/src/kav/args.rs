@@ -25,14 +25,14 @@ pub static COMMANDS: [Command; 6] = [
     Command {
         name: "normal",
         valued: &["--out"],
-        plain: &["--text", "--words"],
+        plain: &["--text", "--spelled"],
         operand: "RECORDING",
         run: list::normal,
     },
     Command {
         name: "write",
         valued: &["--out"],
-        plain: &["--words"],
+        plain: &["--spelled"],
         operand: "MESSAGES",
         run: messages::write,
     },

@@ -31,10 +31,10 @@ kav play [OPTION..] RECORDING: plays a recording at a card
     --model NAME        dcp100 (the default), programmer or udi1500: maker's sheet, values, scan and letter
     --sheet FILE        a bench sheet in text; with no --model it is the only one
     --card L7           letter and address; the default is the model's letter and 7
-    --cards L7,R7,L8    several cards on one pair; replies alone are shown, no causes
+    --cards L7,R7,L8    several cards on one pair; replies alone are shown, no causes and no drops
     --revision 1|2      the card's revision; 1 is the default
     --scan SMWL|none    the identifiers that a query of ] answers with; the model's by default
-    --set m=2.0         a starting value; may be given again for other identifiers
+    --set m=2.0         a starting value; may be given again, and of two for one identifier the later holds
     --drops             show each message that was dropped, at the word that did it
     --text              the input is text
     --out FILE          write to a new file
@@ -61,16 +61,16 @@ Example:  kav list samples/paper-example.words
 ";
 
 const NORMAL: &str = "\
-kav normal [--text] [--words] [--out FILE] RECORDING: the normal form of a recording
+kav normal [--text] [--spelled] [--out FILE] RECORDING: the normal form of a recording
 
-The messages heard, in one spelling, nothing between. As text, one to a line; as words with --words, or where the
-name behind --out ends in .words.
+The messages heard, in one spelling, nothing between. As words; with --spelled, or where the name behind --out ends in
+.text or .txt, as text, one message to a line.
 
-Example:  kav normal samples/paper-example.words
+Example:  kav normal --spelled samples/paper-example.words
 ";
 
 const WRITE: &str = "\
-kav write [--words] [--out FILE] MESSAGES: messages in text to words
+kav write [--spelled] [--out FILE] MESSAGES: messages in text to words
 
 One message to a line, by its parts or as it is spelled:
 
@@ -78,9 +78,9 @@ One message to a line, by its parts or as it is spelled:
     L7 m +              one step up; - is down     L7 M ?      query
     L7 ? ?              status (Type 1)            L7m#00231*  the first of these, spelled
 
-As text, one to a line; as words with --words, or where the name behind --out ends in .words.
+As words; with --spelled, or where the name behind --out ends in .text or .txt, as text, one message to a line.
 
-Example:  echo 'L7 m # 2.3' | kav write -
+Example:  echo 'L7 m # 2.3' | kav write --spelled -
 ";
 
 const READ: &str = "\
@@ -97,7 +97,8 @@ kav verify [OPTION..] FOLDER: replays every recording that has a transcript besi
 
 NAME.transcript is what `kav play` wrote for NAME.words, NAME.text or NAME.txt in the same folder. Its first lines, those
 that begin with --, are the settings it is replayed with; a sheet is looked for in the folder. A transcript without
-them is replayed with the options given here, which are those of play but for --text and --out.
+them is replayed with the options given here, which are those of play but for --text and --out; a sheet is then looked
+for as play does.
 
 For each: same or differs, and where it differs the first such line of both. The status is 1 where one differs, and 2 where
 one couldn't be read. No file is opened for writing.

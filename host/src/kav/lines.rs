@@ -23,7 +23,7 @@ const LINE: usize = 512;
 /// A line's first columns are blanked at once.
 const BLANK: usize = 64;
 
-/// Lines in the making, some thousand bytes of them.
+/// Lines in the making, handed on a page at a time.
 pub struct Page<'a> {
     to: &'a mut dyn Lines,
     bytes: Vec<u8>,

@@ -2,9 +2,9 @@
 
 use super::args::Options;
 use super::output::Output;
-use super::words::{above, bytes_of_words, odd, recording, words_in, Alphabet, Ear, SILENCE};
+use super::words::{above, bytes_of_words, is_text, odd, recording, words_in, Alphabet, Ear, SILENCE};
 use super::{Failure, WELL};
-use crate::abi;
+use crate::abi::{self, LINE};
 
 /// Document 01's listing: a line for each message heard, and `END` with their number. A word above 256 ends it with
 /// `BAD` and its position in that place, a lone last byte with `ODD`, and either is a failure.
@@ -23,7 +23,7 @@ pub fn list(options: &Options) -> Result<u8, Failure> {
         let message = normal_form(&words[close - ear.open()..=close]);
         if !message.is_empty() {
             count += 1;
-            output.put(&line_of(close, &alphabet.characters(&message)))?;
+            output.put(&line_of(close, &message, &alphabet.characters(&message)))?;
         }
         from = close + 1;
     }
@@ -42,13 +42,26 @@ pub fn list(options: &Options) -> Result<u8, Failure> {
     }
 }
 
-/// The columns of a message in its normal form: letter and address, identifier, sign, and data or `-`.
-fn line_of(at: usize, message: &[u8]) -> Vec<u8> {
-    let digits = message[1..].iter().take_while(|character| character.is_ascii_digit()).count();
-    let (card, rest) = message.split_at(1 + digits);
-    let (data, identifier, kind) = (&rest[2..rest.len() - 1], rest[0], rest[1]);
-    let data = if data.is_empty() { b"-" } else { data };
-    [format!("{at} ").as_bytes(), card, &[b' ', identifier, b' ', kind, b' '], data, b"\n"].concat()
+/// The line of a message, from its normal form. Its parts are taken by their places there; that they are this message's is asked
+/// of the writer, which spells them the same.
+fn line_of(at: usize, form: &[u16], characters: &[u8]) -> Vec<u8> {
+    let digits = characters[1..].iter().take_while(|character| character.is_ascii_digit()).count();
+    let number = |digits: &[u8]| digits.iter().fold(0, |sum, digit| 10 * sum + u32::from(digit - b'0'));
+    let (card, rest) = characters.split_at(1 + digits);
+    let (letter, address, identifier, kind) = (card[0], number(&card[1..]), rest[0], rest[1]);
+    let (units, code) = match rest[2..rest.len() - 1] {
+        [ref units @ .., code] => (number(units) as i32, u32::from(code - b'0')),
+        [] => (0, 0),
+    };
+    let minus_zero = u32::from(code > 4 && units == 0);
+    let (units, decimals) = if code > 4 { (-units, code - 5) } else { (units, code) };
+    let mut out = [0; LINE];
+    let count = abi::write(letter, address, identifier, kind, units, decimals, minus_zero, &mut out);
+    let spelled = out[..usize::try_from(count).unwrap_or(0)].iter().map(|byte| u16::from(*byte));
+    assert!(spelled.eq(form.iter().copied()), "the writer spells the parts otherwise");
+    let count =
+        abi::line(at as u64, letter, address, identifier, kind, units, decimals, minus_zero, &mut out);
+    out[..usize::try_from(count).expect("a message, and room for its line")].to_vec()
 }
 
 /// The normal form: never longer than the words.
@@ -59,19 +72,18 @@ pub fn normal_form(words: &[u16]) -> Vec<u16> {
     out
 }
 
-/// The normal form: words where they are asked for, otherwise text with a line for each message.
+/// The normal form of a recording.
 pub fn normal(options: &Options) -> Result<u8, Failure> {
     let alphabet = Alphabet::ask();
     let words = recording(&alphabet, options.operand(), options.has("--text"))?;
     put_messages(options, &alphabet, &normal_form(&words))
 }
 
-/// Messages one behind the other, as words or as text.
+/// Messages one behind the other: words, or where it is asked for text with a line for each.
 pub fn put_messages(options: &Options, alphabet: &Alphabet, words: &[u16]) -> Result<u8, Failure> {
-    let is_words = options.has("--words")
-        || options.value("--out").is_some_and(|file| file.to_string_lossy().ends_with(".words"));
+    let is_spelled = options.has("--spelled") || options.value("--out").is_some_and(is_text);
     let mut output = Output::open(options)?;
-    if is_words {
+    if !is_spelled {
         output.put(&bytes_of_words(words))?;
     } else {
         for message in words.split_inclusive(|word| alphabet.closes(*word)) {

@@ -6,7 +6,7 @@ use super::output::Output;
 use super::setup::letter_and_address;
 use super::sheet::{number_of, shown};
 use super::words::{bytes_of, name_of, words_of, words_of_text, Alphabet, Ear, SILENCE};
-use super::{failure, say, Failure, FAILED, WELL};
+use super::{failure, refusal, say, Failure, FAILED, WELL};
 use crate::abi::{self, ANSWER};
 
 const EXPECTED: &str =
@@ -23,36 +23,47 @@ pub fn write(options: &Options) -> Result<u8, Failure> {
         let columns: Vec<&str> = line.split_ascii_whitespace().collect();
         let message = match columns[..] {
             [] => continue,
-            [spelled] => message_spelled(&alphabet, spelled),
+            [spelled] => message_spelled(&alphabet, spelled).ok_or(String::new()),
             _ => message_asked(&columns),
         };
         match message {
-            Some(message) => words.extend(message),
-            None => return failure(name_of(file), format!("line {}: expected {EXPECTED}", index + 1)),
+            Ok(message) => words.extend(message),
+            Err(why) => {
+                return failure(name_of(file), format!("line {}: expected {EXPECTED}{why}", index + 1))
+            }
         }
     }
     put_messages(options, &alphabet, &words)
 }
 
-/// A message by its parts: the writer's answer.
-fn message_asked(columns: &[&str]) -> Option<Vec<u16>> {
+/// A message by its parts: what the writer spells, or the number that it refuses with.
+fn message_asked(columns: &[&str]) -> Result<Vec<u16>, String> {
+    let Some((letter, address, identifier, kind, data)) = parts_of(columns) else {
+        return Err(String::new());
+    };
+    let (number, decimals, minus) = data.unwrap_or((0, 0, false));
+    let minus_zero = u32::from(minus && number == 0);
+    let mut out = [0; 11];
+    let count = abi::write(letter, address, identifier, kind, number, decimals, minus_zero, &mut out);
+    match usize::try_from(count) {
+        Ok(count) => Ok(out[..count].iter().map(|byte| u16::from(*byte)).collect()),
+        Err(_) => Err(format!(" ({})", refusal::in_words(count))),
+    }
+}
+
+/// Letter, address, identifier, kind, and the number of a `#`.
+type Parts = (u8, u32, u8, u8, Option<(i32, u32, bool)>);
+
+fn parts_of(columns: &[&str]) -> Option<Parts> {
     let (card, identifier, kind, data) = match columns {
-        [card, identifier, kind] => (card, identifier, kind, None),
-        [card, identifier, kind @ "#", number] => (card, identifier, kind, Some(number_of(number)?)),
-        [card, identifier, kind, "-"] if *kind != "#" => (card, identifier, kind, None),
+        [card, identifier, "#", number] => (card, identifier, &"#", Some(number_of(number)?)),
+        [_, _, "#"] => return None,
+        [card, identifier, kind] | [card, identifier, kind, "-"] => (card, identifier, kind, None),
         _ => return None,
     };
     let (letter, address) = letter_and_address(card)?;
     let (&[identifier], &[kind]) = (identifier.as_bytes(), kind.as_bytes()) else { return None };
-    if (kind == b'#') != data.is_some() {
-        return None;
-    }
-    let (number, decimals, minus) = data.unwrap_or((0, 0, false));
-    let mut out = [0; 11];
-    let minus_zero = u32::from(minus && number == 0);
-    let bytes = abi::write(letter, address, identifier, kind, number, decimals, minus_zero, &mut out);
-    let written = out.get(..usize::try_from(bytes).ok()?)?;
-    Some(written.iter().map(|byte| u16::from(*byte)).collect())
+    Some((letter, address, identifier, kind, data))
 }
 
 /// A message as it is spelled, the whole of the text and nothing else: its normal form.

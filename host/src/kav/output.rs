@@ -41,6 +41,9 @@ impl Output {
             return Output::standard();
         };
         let name = file.to_string_lossy().into_owned();
+        if file == "-" {
+            return failure("--out -", "expected a file: standard output is where it goes without --out");
+        }
         match OpenOptions::new().write(true).create_new(true).open(file) {
             Ok(opened) => Ok(Output { name, to: BufWriter::new(opened), is_file: true }),
             Err(why) if why.kind() == io::ErrorKind::AlreadyExists => {

@@ -6,15 +6,15 @@ use super::output::Output;
 use super::setup::{Bench, Settings};
 use super::words::{recording, Alphabet, Ear};
 use super::{failure, refusal, Failure, WELL};
-use crate::abi::{self, NOTE, REPLY};
+use crate::abi::{self, NOTE, NOT_WELL_FORMED, OPEN, REPLY};
 
 /// So many words go by one call, with room for their replies: no message that is answered has fewer than five.
 const BLOCK: usize = 4096;
 const ROOM: usize = (BLOCK / 5 + 1) * REPLY;
 /// Where the columns of a line begin.
-const MESSAGE: usize = 9;
-const ANSWER: usize = 22;
-const CAUSE: usize = 34;
+const MESSAGE_COLUMN: usize = 9;
+const REPLY_COLUMN: usize = 22;
+const CAUSE_COLUMN: usize = 34;
 
 pub fn command(options: &Options) -> Result<u8, Failure> {
     let settings = Settings::given(options)?;
@@ -36,8 +36,8 @@ pub fn play(alphabet: &Alphabet, bench: Bench, words: &[u16], lines: &mut dyn Li
     let (page, position) = (Page::new(lines), Position::new());
     let mut replay =
         Replay { alphabet, words, page, position, drops: bench.drops, heard: 0, malformed: 0, dropped: 0 };
-    if bench.is_pair {
-        replay.pair(bench)?;
+    if bench.is_replies_alone {
+        replay.replies(bench)?;
     } else {
         replay.card(bench)?;
     }
@@ -66,17 +66,26 @@ struct Replay<'a> {
 }
 
 impl Replay<'_> {
-    /// One card: some thousand words by one call, which notes each message that they close.
+    /// One card: a block of words by one call, which notes each message that they close.
     fn card(&mut self, bench: Bench) -> Result<(), Failure> {
         self.page.put_text("     AT  MESSAGE      REPLY       CAUSE");
-        let Bench { cards: mut card, bench, maker, mut values, .. } = bench;
+        let Bench { cards: mut card, bench_sheet, maker_sheet, mut values, .. } = bench;
         let (mut out, mut notes, mut counts) = (vec![0; ROOM], vec![0; BLOCK * NOTE], [0; 3]);
         // Words before `from` are taken, and those before `behind` told of.
         let (mut from, mut behind) = (0, 0);
         while from < self.words.len() {
             let lent = &self.words[from..self.words.len().min(from + BLOCK)];
             let (out, notes) = (&mut out[..], &mut notes[..]);
-            served(abi::trace(&mut card, &bench, &maker, &mut values, lent, out, notes, &mut counts))?;
+            served(abi::trace(
+                &mut card,
+                &bench_sheet,
+                &maker_sheet,
+                &mut values,
+                lent,
+                out,
+                notes,
+                &mut counts,
+            ))?;
             let [taken, _, noted] = counts.map(|count| count as usize);
             let mut replied = 0;
             for note in notes[..noted * NOTE].chunks_exact(NOTE) {
@@ -90,7 +99,7 @@ impl Replay<'_> {
             }
             from += taken;
         }
-        let open = card[2] as usize;
+        let open = card[OPEN] as usize;
         if self.between(behind, from, open) {
             self.end(open);
         }
@@ -123,7 +132,7 @@ impl Replay<'_> {
     fn line(&mut self, at: usize, characters: usize) -> (Line<'_>, usize) {
         let mut line = self.page.line();
         self.position.put(at, &mut line);
-        let column = line.column(MESSAGE);
+        let column = line.column(MESSAGE_COLUMN);
         line.words(self.alphabet, self.words[at - characters..=at].iter().copied());
         (line, column)
     }
@@ -134,7 +143,7 @@ impl Replay<'_> {
             return true;
         }
         let (mut line, _) = self.line(at, characters);
-        line.column(CAUSE);
+        line.column(CAUSE_COLUMN);
         line.text(b"dropped");
         let len = line.end();
         self.page.put(len)
@@ -143,7 +152,7 @@ impl Replay<'_> {
     fn closed(&mut self, closed: Closed) -> bool {
         let alphabet = self.alphabet;
         let (mut line, column) = self.line(closed.at, closed.characters);
-        line.column(ANSWER);
+        line.column(REPLY_COLUMN);
         if closed.reply.is_empty() {
             line.byte(b'-');
         } else {
@@ -151,11 +160,11 @@ impl Replay<'_> {
         }
         let cause = refusal::cause(closed.code);
         if !cause.is_empty() {
-            line.column(CAUSE);
+            line.column(CAUSE_COLUMN);
             line.text(cause.as_bytes());
         }
         let len = line.end();
-        if closed.code != refusal::NOT_WELL_FORMED {
+        if closed.code != NOT_WELL_FORMED {
             self.heard += 1;
             return self.page.put(len);
         }
@@ -185,19 +194,27 @@ impl Replay<'_> {
     }
 
     /// Several cards: the replies alone, each at the word that drew it.
-    fn pair(&mut self, bench: Bench) -> Result<(), Failure> {
+    fn replies(&mut self, bench: Bench) -> Result<(), Failure> {
         self.page.put_text("     AT  REPLY");
-        let Bench { mut cards, bench, maker, mut values, .. } = bench;
+        let Bench { mut cards, bench_sheet, maker_sheet, mut values, .. } = bench;
         let (mut out, mut counts, mut count, mut from) = ([0; REPLY], [0; 2], 0, 0);
         for taken in self.words.split_inclusive(|word| self.alphabet.closes(*word)) {
-            served(abi::bus_run(&mut cards, &bench, &maker, &mut values, taken, &mut out, &mut counts))?;
+            served(abi::bus_run(
+                &mut cards,
+                &bench_sheet,
+                &maker_sheet,
+                &mut values,
+                taken,
+                &mut out,
+                &mut counts,
+            ))?;
             from += taken.len();
             let reply = &out[..counts[1] as usize];
             if !reply.is_empty() {
                 count += 1;
                 let mut line = self.page.line();
                 self.position.put(from - 1, &mut line);
-                line.column(MESSAGE);
+                line.column(MESSAGE_COLUMN);
                 line.words(self.alphabet, reply.iter().map(|byte| u16::from(*byte)));
                 let len = line.end();
                 if !self.page.put(len) {

@@ -1,4 +1,6 @@
-//! Numbers of refusals and codes of causes, in the papers' words.
+//! Numbers of refusals and codes of causes, in the papers' words: all of them, though not every call gives each.
+
+use crate::abi::{NOT_CLOSED, NOT_WELL_FORMED};
 
 /// Minus the number of a refusal, in words.
 pub fn in_words(result: i64) -> String {
@@ -16,9 +18,6 @@ pub fn in_words(result: i64) -> String {
     format!("refused with number {}: {what}", -result)
 }
 
-/// The code of a message that isn't well formed.
-pub const NOT_WELL_FORMED: u64 = 10;
-
 /// A cause's code in words; nothing for an `A` or `I`.
 pub fn cause(code: u64) -> &'static str {
     match code {
@@ -31,7 +30,7 @@ pub fn cause(code: u64) -> &'static str {
         6 => "at the limit",
         7 => "not for this card",
         8 => "Type 4 without its offer",
-        9 => "no message closed by this word",
+        NOT_CLOSED => "no message closed by this word",
         NOT_WELL_FORMED => "not well formed",
         _ => "a cause that no call gives",
     }

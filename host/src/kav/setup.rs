@@ -6,15 +6,12 @@ use super::args::Options;
 use super::sheet::{rows_of, units_of};
 use super::words::name_of;
 use super::{failure, refusal, Failure};
-use crate::abi::{self, CARD, SETUP, SHEET, VALUES};
+use crate::abi::{self, CARD, REVISION, SCAN, SETUP, SHEET, VALUES};
 use std::ffi::{OsStr, OsString};
 use std::path::Path;
 
 /// The instruments, by the number that [`abi::model`] gives them.
 const MODELS: [(&str, u32); 3] = [("dcp100", 1), ("programmer", 2), ("udi1500", 3)];
-/// Where a card stands in its row of numbers.
-const SCAN: std::ops::Range<usize> = 16..22;
-const REVISION: usize = 22;
 
 /// The settings as they were given, on the command line or at the head of a transcript.
 #[derive(Clone, Default)]
@@ -72,11 +69,11 @@ fn once<T>(name: &str, place: &mut Option<T>, value: T) -> Result<bool, Failure>
 #[derive(Clone)]
 pub struct Bench {
     pub cards: Vec<i32>,
-    pub bench: Vec<i32>,
-    pub maker: Vec<i32>,
+    pub bench_sheet: Vec<i32>,
+    pub maker_sheet: Vec<i32>,
     pub values: Vec<i32>,
-    /// Several were asked for, if only one: replies alone are given.
-    pub is_pair: bool,
+    /// They were named by `--cards`, be it one: replies alone are given.
+    pub is_replies_alone: bool,
     pub drops: bool,
     /// All settings, defaults too, as a transcript has them at its head.
     pub head: Vec<String>,
@@ -93,11 +90,20 @@ impl Bench {
     /// The refusal that these get, if any.
     fn refusal(&self) -> Option<i64> {
         let (mut cards, mut values, mut counts) = (self.cards.clone(), self.values.clone(), [0; 2]);
-        let result =
-            abi::bus_run(&mut cards, &self.bench, &self.maker, &mut values, &[], &mut [], &mut counts);
+        let result = abi::bus_run(
+            &mut cards,
+            &self.bench_sheet,
+            &self.maker_sheet,
+            &mut values,
+            &[],
+            &mut [],
+            &mut counts,
+        );
         (result < 0).then_some(result)
     }
 
+    /// Nothing, or the refusal laid to a setting. Where the values aren't there yet, the sheets are taken out before, as they
+    /// would be refused with each other.
     fn judged(&self, place: impl std::fmt::Display, expected: &str) -> Result<(), Failure> {
         match self.refusal() {
             Some(result) => failure(place, format!("{}; expected {expected}", refusal::in_words(result))),
@@ -109,10 +115,10 @@ impl Bench {
     pub fn new(settings: &Settings, folder: Option<&Path>) -> Result<Bench, Failure> {
         let mut bench = Bench {
             cards: Vec::new(),
-            bench: Vec::new(),
-            maker: Vec::new(),
+            bench_sheet: Vec::new(),
+            maker_sheet: Vec::new(),
             values: Vec::new(),
-            is_pair: settings.cards.is_some(),
+            is_replies_alone: settings.cards.is_some(),
             drops: settings.drops,
             head: Vec::new(),
         };
@@ -124,12 +130,12 @@ impl Bench {
             let Some(&(name, number)) = MODELS.iter().find(|(known, _)| *known == name) else {
                 return failure(format!("--model {name}"), "expected dcp100, programmer or udi1500");
             };
-            bench.maker = vec![0; SHEET];
-            let length = abi::model(number, &mut bench.maker, &mut values, &mut instrument);
-            bench.maker.truncate(usize::try_from(length).unwrap_or(0));
+            bench.maker_sheet = vec![0; SHEET];
+            let length = abi::model(number, &mut bench.maker_sheet, &mut values, &mut instrument);
+            bench.maker_sheet.truncate(usize::try_from(length).expect("room for every instrument"));
             bench.head.push(format!("--model {name}"));
         }
-        bench.place(settings, instrument[0])?;
+        bench.name_cards(settings, instrument[0])?;
         bench.revise(settings)?;
         bench.lay(settings, folder, &mut values)?;
         let count = bench.cards.len() / CARD;
@@ -138,6 +144,9 @@ impl Bench {
         for set in &settings.sets {
             bench.set(set, count)?;
         }
+        if bench.drops && bench.is_replies_alone {
+            return failure("--drops", "expected --card: several cards give replies alone");
+        }
         if bench.drops {
             bench.head.push("--drops".to_string());
         }
@@ -145,14 +154,14 @@ impl Bench {
     }
 
     /// Letters and addresses.
-    fn place(&mut self, settings: &Settings, letter: i32) -> Result<(), Failure> {
+    fn name_cards(&mut self, settings: &Settings, letter: i32) -> Result<(), Failure> {
         let default = format!("{}7", char::from(letter as u8));
         let (option, named) = match (&settings.cards, &settings.card) {
             (Some(_), Some(_)) => return failure("--cards", "expected either --card or --cards, not both"),
             (Some(cards), None) => ("--cards", cards.as_str()),
             (None, card) => ("--card", card.as_deref().unwrap_or(&default)),
         };
-        let parts: Vec<&str> = if self.is_pair { named.split(',').collect() } else { vec![named] };
+        let parts: Vec<&str> = if self.is_replies_alone { named.split(',').collect() } else { vec![named] };
         for part in parts {
             let Some((letter, address)) = letter_and_address(part) else {
                 return failure(
@@ -165,12 +174,12 @@ impl Bench {
             self.cards.extend_from_slice(&row);
             self.values.extend_from_slice(&[0; VALUES]);
         }
-        let maker = std::mem::take(&mut self.maker);
+        let maker = std::mem::take(&mut self.maker_sheet);
         self.judged(
             format!("{option} {named}"),
             "L or R and an address of 1 to 99, each card once, 32 at most",
         )?;
-        self.maker = maker;
+        self.maker_sheet = maker;
         self.head.push(format!("{option} {named}"));
         Ok(())
     }
@@ -181,9 +190,9 @@ impl Bench {
         let &[digit @ b'0'..=b'9'] = text.as_bytes() else { return failure(place, "expected 1 or 2") };
         let revision = i32::from(digit - b'0');
         self.cards.chunks_exact_mut(CARD).for_each(|card| card[REVISION] = revision);
-        let maker = std::mem::take(&mut self.maker);
+        let maker = std::mem::take(&mut self.maker_sheet);
         self.judged(&place, "1 or 2")?;
-        self.maker = maker;
+        self.maker_sheet = maker;
         self.head.push(place);
         Ok(())
     }
@@ -192,23 +201,23 @@ impl Bench {
     fn lay(&mut self, settings: &Settings, folder: Option<&Path>, values: &mut [i32]) -> Result<(), Failure> {
         let Some(name) = &settings.sheet else { return Ok(()) };
         let file = folder.map_or_else(|| name.clone(), |folder| folder.join(name).into_os_string());
-        if name == "-" {
-            return failure("--sheet -", "expected a file: standard input is for the recording");
+        if name == "-" || name.as_encoded_bytes().contains(&b'\n') {
+            return failure("--sheet", "expected a file, by a name without a line feed");
         }
         let rows = rows_of(&file)?;
-        let maker = std::mem::take(&mut self.maker);
+        let maker = std::mem::take(&mut self.maker_sheet);
         let mut before = Vec::new();
         for row in &rows {
             values[row.numbers[0] as usize] = row.value;
             self.values = values.repeat(self.cards.len() / CARD);
             let place = format!("{}: line {}", name_of(&file), row.line);
-            self.bench = row.numbers.to_vec();
+            self.bench_sheet = row.numbers.to_vec();
             self.judged(&place, "a row and a value as document 01 has them, and not one for `]`")?;
             before.extend(row.numbers);
-            self.bench.clone_from(&before);
+            self.bench_sheet.clone_from(&before);
             self.judged(&place, "an identifier behind the one before, and 64 rows at most")?;
         }
-        self.maker = maker;
+        self.maker_sheet = maker;
         let shown = Path::new(name).file_name().unwrap_or(name).to_string_lossy();
         self.head.push(format!("--sheet {shown}"));
         Ok(())
@@ -230,15 +239,17 @@ impl Bench {
                     .for_each(|(number, code)| *number = i32::from(code));
             }
         }
-        let named: String =
-            numbers[1..].iter().filter(|code| **code != 0).map(|code| char::from(*code as u8)).collect();
-        let place = format!(
-            "--scan {}",
-            settings.scan.as_deref().unwrap_or(if named.is_empty() { "none" } else { &named })
-        );
+        let codes = numbers[1..].iter().filter(|code| **code != 0);
+        let named: String = codes.map(|code| char::from(*code as u8)).collect();
+        let named =
+            settings.scan.clone().unwrap_or(if named.is_empty() { "none".to_string() } else { named });
         self.cards.chunks_exact_mut(CARD).for_each(|card| card[SCAN].copy_from_slice(&numbers));
-        self.judged(&place, "none, or four or five identifiers with rows that can be read, as SMWL")?;
-        self.head.push(place);
+        let whose = if settings.scan.is_some() { "--scan" } else { "the model's scan" };
+        self.judged(
+            format!("{whose} {named}"),
+            "none, or four or five identifiers with rows that can be read, as SMWL",
+        )?;
+        self.head.push(format!("--scan {named}"));
         Ok(())
     }
 
@@ -255,11 +266,15 @@ impl Bench {
             return failure(place, "expected an identifier, `=` and a number, as m=2.0");
         };
         let mut row = [0; 6];
-        if abi::lookup(&self.bench, &self.maker, identifier, &mut row) != 6 {
+        if abi::lookup(&self.bench_sheet, &self.maker_sheet, identifier, &mut row) != 6 {
             return failure(place, format!("there is no row for {}", char::from(identifier)));
         }
         let Some(value) = units_of(number, row[2] as u32) else {
-            return failure(place, format!("expected a number with at most {} decimals", row[2]));
+            let decimals = row[2];
+            return failure(
+                place,
+                format!("expected a number, decimals at most {decimals}, digits at most nine"),
+            );
         };
         for card in 0..count {
             self.values[card * VALUES + usize::from(identifier)] = value;

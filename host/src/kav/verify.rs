@@ -8,7 +8,7 @@ use super::play::play;
 use super::setup::{Bench, Settings};
 use super::words::{bytes_of, recording, Alphabet};
 use super::{failure, Failure, DIFFERS, WELL};
-use std::ffi::{OsStr, OsString};
+use std::ffi::OsStr;
 use std::io::{self, IsTerminal, Write};
 use std::iter::Peekable;
 use std::path::{Path, PathBuf};
@@ -19,7 +19,7 @@ const RECORDINGS: [&str; 3] = ["words", "text", "txt"];
 
 pub fn command(options: &Options) -> Result<u8, Failure> {
     let folder = Path::new(options.operand());
-    let settings = Settings::given(options)?;
+    let given = Bench::new(&Settings::given(options)?, None)?;
     let names = match names_in(folder) {
         Ok(names) => names,
         Err(why) => return failure(folder.display(), why),
@@ -39,7 +39,7 @@ pub fn command(options: &Options) -> Result<u8, Failure> {
             .filter_map(|ending| names.iter().find(|name| **name == transcript.with_extension(ending)))
             .collect();
         let compared = match beside[..] {
-            [recording] => compare(&alphabet, &settings, folder, recording, transcript),
+            [recording] => compare(&alphabet, &given, folder, recording, transcript),
             [] => failure(transcript.display(), "expected a recording beside it (.words, .text or .txt)"),
             _ => failure(transcript.display(), "expected one recording beside it, found more"),
         };
@@ -82,12 +82,28 @@ fn has_ending(name: &Path, ending: &str) -> bool {
     name.extension() == Some(OsStr::new(ending))
 }
 
-/// The names in a folder, in order.
+/// The names of the files in a folder, in order.
 fn names_in(folder: &Path) -> io::Result<Vec<PathBuf>> {
-    let names: io::Result<Vec<OsString>> = folder.read_dir()?.map(|entry| Ok(entry?.file_name())).collect();
-    let mut names: Vec<PathBuf> = names?.into_iter().map(PathBuf::from).collect();
+    let mut names = Vec::new();
+    for entry in folder.read_dir()? {
+        let name = PathBuf::from(entry?.file_name());
+        if folder.join(&name).is_file() {
+            names.push(name);
+        }
+    }
     names.sort();
     Ok(names)
+}
+
+/// A line as it can be told from another: what doesn't print, and blanks at its end, by their codes.
+fn visible(line: &str) -> String {
+    let text = line.trim_end_matches(' ');
+    let blanks = "\\x20".repeat(line.len() - text.len());
+    let shown: String = text
+        .chars()
+        .map(|c| if c.is_control() { c.escape_default().to_string() } else { c.to_string() })
+        .collect();
+    shown + &blanks
 }
 
 /// The lines of a transcript beside those of a replay, up to the first that differ.
@@ -99,10 +115,10 @@ struct Comparison<'a> {
 
 impl Comparison<'_> {
     fn differ(&mut self, left: Option<&str>, right: Option<&str>) -> bool {
-        let [left, right] = [left, right].map(|line| line.unwrap_or("(nothing)"));
+        let [left, right] = [left, right].map(|line| line.map_or("(nothing)".to_string(), visible));
         let width = left.chars().count().max(10);
         let mut shown = format!("line {}\n", self.number);
-        for (left, right) in [("transcript", "replay"), (left, right)] {
+        for (left, right) in [("transcript", "replay"), (&left, &right)] {
             shown += &format!("         {left:width$} | {right}\n");
         }
         self.difference = Some(shown);
@@ -128,7 +144,7 @@ impl Lines for Comparison<'_> {
 /// none. None where they are the same.
 fn compare(
     alphabet: &Alphabet,
-    given: &Settings,
+    given: &Bench,
     folder: &Path,
     name: &Path,
     transcript: &Path,
@@ -142,28 +158,40 @@ fn compare(
         return failure(place.display(), "expected a line feed at its end: it is cut off");
     };
     let mut left = text.split('\n').peekable();
-    let (mut settings, mut number) = (Settings::default(), 0);
+    let (mut settings, mut head) = (Settings::default(), Vec::new());
     while let Some(line) = left.next_if(|line| line.starts_with("--")) {
-        number += 1;
+        head.push(line);
+        let number = head.len();
         let (option, value) = line.split_once(' ').unwrap_or((line, ""));
-        match line {
-            "--drops" => settings.drops = true,
-            _ => match settings.take(option, OsStr::new(value)) {
-                Ok(true) => {}
-                Ok(false) => {
-                    return failure(place.display(), format!("line {number}: {option}: no such setting"))
-                }
-                Err(Failure(what)) => return failure(place.display(), format!("line {number}: {what}")),
-            },
+        let taken = match line {
+            _ if line.contains('\r') => failure(option, "expected a line feed alone at its end"),
+            "--drops" => {
+                settings.drops = true;
+                Ok(true)
+            }
+            _ => settings.take(option, OsStr::new(value)),
+        };
+        match taken {
+            Ok(true) => {}
+            Ok(false) => {
+                return failure(place.display(), format!("line {number}: {option}: no such setting"))
+            }
+            Err(Failure(what)) => return failure(place.display(), format!("line {number}: {what}")),
         }
     }
-    let settings = if number == 0 { given } else { &settings };
-    let mut bench = match Bench::new(settings, Some(folder)) {
-        Ok(bench) => bench,
-        Err(Failure(what)) => return failure(place.display(), what),
+    let mut bench = if head.is_empty() {
+        given.clone()
+    } else {
+        Bench::new(&settings, Some(folder)).or_else(|Failure(what)| {
+            // What fails begins with its setting, as the line does.
+            let number = head.iter().position(|line| what.starts_with(line)).map(|at| at + 1);
+            let line = number.map_or(String::new(), |number| format!("line {number}: "));
+            failure(place.display(), format!("{line}{what}"))
+        })?
     };
     // The settings were taken from there, and aren't compared.
     bench.head.clear();
+    let number = head.len();
     let words = recording(alphabet, folder.join(name).as_os_str(), false)?;
     let mut comparison = Comparison { left, number, difference: None };
     play(alphabet, bench, &words, &mut comparison)?;

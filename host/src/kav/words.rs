@@ -3,7 +3,7 @@
 
 use super::output::stream;
 use super::{failure, Failure};
-use crate::abi::{self, CARD, REPLY, VALUES};
+use crate::abi::{self, CARD, CHARACTERS, NOT_CLOSED, OPEN, REPLY, REVISION, VALUES};
 use std::ffi::OsStr;
 use std::fs::File;
 use std::io::{ErrorKind, Read};
@@ -11,9 +11,6 @@ use std::io::{ErrorKind, Read};
 /// A silence longer than the card's timeout, and the greatest word.
 pub const SILENCE: u16 = 256;
 const WORDS: usize = SILENCE as usize + 1;
-
-/// The code of [`abi::step`] for a word that closed no message.
-const NOT_CLOSED: i32 = 9;
 
 /// A card that only hears: under no sheet, with nothing on offer.
 pub struct Ear {
@@ -24,13 +21,13 @@ pub struct Ear {
 impl Ear {
     pub fn new() -> Ear {
         let mut row = [0; CARD];
-        (row[0], row[1], row[22]) = (i32::from(b'L'), 1, 1);
+        (row[0], row[1], row[REVISION]) = (i32::from(b'L'), 1, 1);
         Ear { row, values: [0; VALUES] }
     }
 
     /// How many characters are open.
     pub fn open(&self) -> usize {
-        self.row[2] as usize
+        self.row[OPEN] as usize
     }
 
     /// Takes words none of which is answered.
@@ -40,12 +37,12 @@ impl Ear {
         assert_eq!((result, counts[0] as usize), (0, words.len()), "a word was refused, or answered");
     }
 
-    /// Takes one word. Gives the cause's code.
-    fn step(&mut self, word: u16) -> i32 {
+    /// Takes one word. Whether it closes a message.
+    fn closes(&mut self, word: u16) -> bool {
         let (mut out, mut cause) = ([0; REPLY], [0; 2]);
         let result = abi::step(&mut self.row, &[], &[], &mut self.values, word, &mut out, &mut cause);
         assert!(result >= 0, "a word was refused");
-        cause[0]
+        cause[0] as u64 != NOT_CLOSED
     }
 }
 
@@ -78,9 +75,9 @@ impl Alphabet {
             let mut ear = Ear::new();
             ear.hear(&[letter]);
             let at = usize::from(word);
-            closes[at] = ear.step(word) != NOT_CLOSED;
+            closes[at] = ear.closes(word);
             characters[at] = match ear.open() {
-                2 => Some(ear.row[4] as u8),
+                2 => Some(ear.row[CHARACTERS + 1] as u8),
                 _ => closes[at].then_some(b'*'),
             };
             if let Some(character) = characters[at] {
@@ -205,7 +202,7 @@ pub fn bytes_of(file: &OsStr) -> Result<Vec<u8>, Failure> {
 
 /// Whether a name says that the file is text.
 pub fn is_text(file: &OsStr) -> bool {
-    let name = file.to_string_lossy();
+    let name = file.to_string_lossy().to_ascii_lowercase();
     [".text", ".txt"].iter().any(|ending| name.ends_with(ending))
 }
 
@@ -220,10 +217,10 @@ pub fn words_in(alphabet: &Alphabet, file: &OsStr, text: bool) -> Result<(Vec<u1
         };
     }
     let mut reader = opened(file)?;
-    // So many as the file has, where that is known: its words are held once.
-    let length = std::fs::metadata(file).map_or(0, |known| known.len() as usize);
-    let mut words = Vec::with_capacity(length / 2);
-    let (mut buffer, mut held) = ([0; 1 << 16], 0);
+    let (mut words, mut buffer, mut held) = (Vec::new(), [0; 1 << 16], 0);
+    // So many as the file has, where that is known: its words are then held once.
+    let length = reader.metadata().map_or(0, |known| known.len());
+    reserve(&mut words, length as usize / 2, file)?;
     loop {
         match reader.read(&mut buffer[held..]) {
             Ok(0) => break,
@@ -231,12 +228,18 @@ pub fn words_in(alphabet: &Alphabet, file: &OsStr, text: bool) -> Result<(Vec<u1
             Err(why) if why.kind() == ErrorKind::Interrupted => continue,
             Err(why) => return failure(name_of(file), why),
         }
+        reserve(&mut words, held / 2, file)?;
         words.extend(buffer[..held].chunks_exact(2).map(|pair| u16::from_le_bytes([pair[0], pair[1]])));
         // A byte whose other half isn't read yet.
         buffer[0] = buffer[held - 1];
         held %= 2;
     }
     Ok((words, held == 1))
+}
+
+/// Room for more words, where the machine has it.
+fn reserve(words: &mut Vec<u16>, more: usize, file: &OsStr) -> Result<(), Failure> {
+    words.try_reserve(more).or_else(|_| failure(name_of(file), "too long for this machine's memory"))
 }
 
 /// A lone byte behind so many words.
@@ -255,7 +258,10 @@ pub fn words_of(alphabet: &Alphabet, file: &OsStr, text: bool) -> Result<Vec<u16
 
 /// A word above 256.
 pub fn above<T>(file: &OsStr, at: usize, word: u16) -> Result<T, Failure> {
-    failure(name_of(file), format!("word {at} is {word}: expected 0 to 256"))
+    // Two characters of a text, taken for a word.
+    let is_text = word.to_le_bytes().iter().all(|byte| byte.is_ascii_graphic() || byte.is_ascii_whitespace());
+    let hint = if is_text { " (a text needs --text, or a name that ends in .text or .txt)" } else { "" };
+    failure(name_of(file), format!("word {at} is {word}: expected 0 to 256{hint}"))
 }
 
 /// The words of a recording: none is above 256.

@@ -8,9 +8,9 @@ use std::os::unix::fs::symlink;
 const WRITING: [&[&str]; 6] = [
     &["play", "--sheet", "bench.sheet", "a.words"],
     &["list", "a.words"],
+    &["normal", "--spelled", "a.words"],
     &["normal", "a.words"],
-    &["normal", "--words", "a.words"],
-    &["write", "messages"],
+    &["write", "--spelled", "messages"],
     &["read", "replies.txt"],
 ];
 
@@ -89,10 +89,10 @@ fn no_file_left_behind() {
         &["play", "--bogus", "a.words"],
         &["list", "missing"],
         &["list", "bad.txt"],
-        &["normal", "missing"],
-        &["normal", "high.words"],
-        &["normal", "--words", "bad.txt"],
-        &["write", "bad"],
+        &["normal", "--spelled", "missing"],
+        &["normal", "--spelled", "high.words"],
+        &["normal", "bad.txt"],
+        &["write", "--spelled", "bad"],
         &["read", "odd.words"],
         &["read", "."],
     ];

@@ -53,7 +53,7 @@ fn written_as_by_the_reference() {
             }
             None if refused < 200 => {
                 refused += 1;
-                let ended = folder.kav_reads(&["write", "-"], text.as_bytes());
+                let ended = folder.kav_reads(&["write", "--spelled", "-"], text.as_bytes());
                 assert_eq!(ended.status, 2, "seed {seed}, message {index}: {text}");
                 ended.refuses(&["standard input: line 1: expected a message"]);
             }
@@ -61,12 +61,12 @@ fn written_as_by_the_reference() {
         }
     }
     assert!(refused == 200 && shown.lines().count() > 500, "seed {seed}");
-    let ended = folder.kav_reads(&["write", "-"], asked.as_bytes());
+    let ended = folder.kav_reads(&["write", "--spelled", "-"], asked.as_bytes());
     assert_same(&ended.out, &shown, format!("seed {seed}"));
-    let ended = folder.kav_reads(&["write", "--words", "-"], asked.as_bytes());
+    let ended = folder.kav_reads(&["write", "-"], asked.as_bytes());
     assert!(ended.bytes == file_of(&words) && ended.status == 0, "seed {seed}: the words");
     // The spelled messages are taken too, and give the same.
-    let ended = folder.kav_reads(&["write", "-"], shown.as_bytes());
+    let ended = folder.kav_reads(&["write", "--spelled", "-"], shown.as_bytes());
     assert_same(&ended.out, &shown, format!("seed {seed}, spelled"));
 }
 

@@ -217,22 +217,22 @@ fn normal() {
     folder.write("a.words", &words);
     folder.write("a.txt", "xL07M?*L007M?*L7m#00231*\nR12??*L7J#00005*L7J\n");
     folder.write("empty.words", "");
-    folder.kav(&["normal", "a.words"]).prints(form);
-    folder.kav(&["normal", "a.txt"]).prints(form);
-    folder.kav_reads(&["normal", "-"], &words).prints(form);
-    folder.kav_reads(&["normal", "-", "--text"], form.as_bytes()).prints(form);
-    folder.kav(&["normal", "empty.words"]).prints("");
-    let ended = folder.kav(&["normal", "--words", "a.words"]);
+    folder.kav(&["normal", "--spelled", "a.words"]).prints(form);
+    folder.kav(&["normal", "--spelled", "a.txt"]).prints(form);
+    folder.kav_reads(&["normal", "--spelled", "-"], &words).prints(form);
+    folder.kav_reads(&["normal", "--spelled", "-", "--text"], form.as_bytes()).prints(form);
+    folder.kav(&["normal", "--spelled", "empty.words"]).prints("");
+    let ended = folder.kav(&["normal", "a.words"]);
     assert_eq!((words_in(&ended.bytes), ended.status), (normal.clone(), 0));
     folder.kav(&["normal", "a.words", "--out", "b.words"]).prints("");
     assert_eq!(words_in(&fs::read(folder.path("b.words")).unwrap()), normal);
     folder.kav(&["normal", "a.words", "--out", "b.txt"]).prints("");
     assert_eq!(folder.read("b.txt"), form);
-    folder.kav(&["normal", "a.words", "--words", "--out", "b"]).prints("");
+    folder.kav(&["normal", "a.words", "--out", "b"]).prints("");
     assert_eq!(words_in(&fs::read(folder.path("b")).unwrap()), normal);
     // What was written is its own normal form.
-    folder.kav(&["normal", "b.words"]).prints(form);
-    folder.kav(&["normal", "b.txt"]).prints(form);
+    folder.kav(&["normal", "--spelled", "b.words"]).prints(form);
+    folder.kav(&["normal", "--spelled", "b.txt"]).prints(form);
 }
 
 #[test]
@@ -274,19 +274,19 @@ L7m#00231*
 L7J?*
 ";
     folder.write("asked", asked);
-    folder.kav(&["write", "asked"]).prints(form);
-    folder.kav_reads(&["write", "-"], asked.as_bytes()).prints(form);
-    folder.kav_reads(&["write", "-"], b"").prints("");
-    folder.kav_reads(&["write", "-"], b"L7 M ?").prints("L7M?*\n");
+    folder.kav(&["write", "--spelled", "asked"]).prints(form);
+    folder.kav_reads(&["write", "--spelled", "-"], asked.as_bytes()).prints(form);
+    folder.kav_reads(&["write", "--spelled", "-"], b"").prints("");
+    folder.kav_reads(&["write", "--spelled", "-"], b"L7 M ?").prints("L7M?*\n");
     let words = said(&form.replace('\n', ""));
-    let ended = folder.kav(&["write", "--words", "asked"]);
+    let ended = folder.kav(&["write", "asked"]);
     assert_eq!((words_in(&ended.bytes), ended.status), (words.clone(), 0));
     folder.kav(&["write", "asked", "--out", "a.words"]).prints("");
     assert_eq!(words_in(&fs::read(folder.path("a.words")).unwrap()), words);
     folder.kav(&["write", "asked", "--out", "a.txt"]).prints("");
     assert_eq!(folder.read("a.txt"), form);
     // What was written is heard, all of it.
-    folder.kav(&["normal", "a.words"]).prints(form);
+    folder.kav(&["normal", "--spelled", "a.words"]).prints(form);
 }
 
 #[test]

@@ -268,7 +268,7 @@ fn listings_as_by_the_reference() {
         let what = format!("seed {seed}, listing {index}");
         let mut room = vec![0; words.len()];
         let count = calls::normal_form(&words, &mut room) as usize;
-        let normal = folder.kav_reads(&["normal", "--words", "-"], &file_of(&words));
+        let normal = folder.kav_reads(&["normal", "-"], &file_of(&words));
         assert!(normal.bytes == file_of(&room[..count]) && normal.status == 0, "{what}: the normal form");
         for _ in 0..rng.pick(&[0, 0, 0, 1, 2]) {
             if !words.is_empty() {

@@ -122,7 +122,7 @@ fn bad_settings() {
         "m=9999999999",
         "Z=15.0",
     ] {
-        refuse("--set", set, "expected a number with at most");
+        refuse("--set", set, "expected a number, decimals at most");
     }
     for set in ["m=2.1", "m=-0.5", "m=100.5", "m=99999", "Z=14", "J=-10.5"] {
         refuse("--set", set, "expected a number in range and on the step of its row");
@@ -304,12 +304,12 @@ fn unreadable_messages() {
         "{4C}7M?*",
     ] {
         folder.write("messages", format!("L7 M ?\n\n{wrong}\nL7 M ?\n"));
-        let ended = folder.kav(&["write", "messages"]);
+        let ended = folder.kav(&["write", "--spelled", "messages"]);
         assert_eq!(ended.status, 2, "{wrong}");
         ended.refuses(&["messages: line 3: expected a message, as `L7 m # 2.3`"]);
     }
-    folder.kav(&["write", "missing"]).refuses(&["missing: ", "No such file"]);
-    folder.kav(&["write", "."]).refuses(&["kav: .: ", "directory"]);
+    folder.kav(&["write", "--spelled", "missing"]).refuses(&["missing: ", "No such file"]);
+    folder.kav(&["write", "--spelled", "."]).refuses(&["kav: .: ", "directory"]);
 }
 
 /// Transcripts that can't be compared: each is named, and the others are compared all the same.
@@ -391,7 +391,9 @@ fn standard_input_twice() {
 fn numbers_with_a_sign() {
     let folder = Folder::with_case_e("signed");
     for message in ["L+7 M ?", "L007 M ?", "L+07 M ?"] {
-        folder.kav_reads(&["write", "-"], message.as_bytes()).refuses(&["line 1: expected a message"]);
+        folder
+            .kav_reads(&["write", "--spelled", "-"], message.as_bytes())
+            .refuses(&["line 1: expected a message"]);
     }
     for revision in ["+1", "01", "+2"] {
         let ended = folder.kav(&["play", "--sheet", "bench.sheet", "--revision", revision, "a.words"]);
@@ -399,4 +401,76 @@ fn numbers_with_a_sign() {
     }
     folder.write("signed.sheet", "m rw +1 0.5 0.0 100.0 2.0\n");
     folder.kav(&["play", "--sheet", "signed.sheet", "a.words"]).refuses(&["signed.sheet: line 1: "]);
+}
+
+/// The options of `verify` are judged though every transcript has settings of its own; a sheet given there is looked for as
+/// `play` does.
+#[test]
+fn options_of_verify() {
+    let folder = Folder::with_case_e("given");
+    let replay = folder.kav(&["play", "--sheet", "bench.sheet", "a.words"]).out;
+    folder.write("a.transcript", &replay);
+    for options in
+        [["--model", "bogus"], ["--revision", "9"], ["--card", "Q"], ["--set", "zzz"], ["--sheet", "no"]]
+    {
+        let [option, value] = options;
+        let ended = folder.kav(&["verify", option, value, "."]);
+        assert_eq!((ended.status, ended.out.as_str()), (2, ""), "{options:?}");
+        assert!(ended.err.contains(value), "{ended:?}");
+    }
+    std::fs::create_dir(folder.path("inner")).unwrap();
+    for name in ["a.words", "a.transcript"] {
+        std::fs::rename(folder.path(name), folder.path(&format!("inner/{name}"))).unwrap();
+    }
+    let body: String =
+        replay.lines().filter(|line| !line.starts_with("--")).map(|line| format!("{line}\n")).collect();
+    folder.write("inner/a.transcript", body);
+    let ended = folder.kav(&["verify", "--sheet", "bench.sheet", "inner"]);
+    assert_eq!((ended.status, ended.err.as_str()), (0, ""), "{}", ended.out);
+}
+
+/// A transcript with carriage returns is named by its line, and a difference that doesn't print is shown by its code.
+#[test]
+fn carriage_returns() {
+    let folder = Folder::with_case_e("returns");
+    let replay = folder.kav(&["play", "--sheet", "bench.sheet", "a.words"]).out;
+    folder.write("a.transcript", replay.replace('\n', "\r\n"));
+    let ended = folder.kav(&["verify", "."]);
+    assert_eq!(ended.status, 2);
+    assert!(ended.out.contains("a.transcript: line 1: --card: expected a line feed alone"), "{}", ended.out);
+    for (end, shown) in
+        [("\r\n", "L7m00201A*\\r |"), ("  \n", "L7m00201A*\\x20\\x20 |"), ("\u{1b}[2K\n", "\\u{1b}[2K |")]
+    {
+        folder.write("a.transcript", replay.replace("00201A*\n", &format!("00201A*{end}")));
+        let ended = folder.kav(&["verify", "."]);
+        assert_eq!(ended.status, 1);
+        assert!(ended.out.contains(shown) && !ended.out.contains('\u{1b}'), "{}", ended.out);
+    }
+    folder.write("a.transcript", replay.replace("--card L7", "--card L0"));
+    let ended = folder.kav(&["verify", "."]);
+    assert!(ended.out.contains("a.transcript: line 1: --card L0: "), "{}", ended.out);
+}
+
+/// A file that claims to be longer than any memory, one that isn't a file, and what can't be asked for.
+#[test]
+fn hostile_files() {
+    let folder = Folder::with_case_e("hostile");
+    let big = std::fs::File::create(folder.path("big.words")).unwrap();
+    // As long as the file system lets it be.
+    if (40..60).rev().any(|bits| big.set_len(1 << bits).is_ok()) {
+        let ended = folder.shell("ulimit -v 4000000; exec \"$KAV\" list big.words");
+        ended.refuses(&["big.words: too long for this machine's memory"]);
+    }
+    let made = std::process::Command::new("mkfifo").arg(folder.path("b.words")).status();
+    if made.is_ok_and(|status| status.success()) {
+        folder.write("b.transcript", "--card L7\n");
+        let ended = folder.kav(&["verify", "."]);
+        assert!(ended.out.contains("b.transcript: expected a recording beside it"), "{ended:?}");
+    }
+    folder
+        .kav(&["play", "--sheet", "bench.sheet", "--out", "-", "a.words"])
+        .refuses(&["--out -", "expected a file"]);
+    let ended = folder.kav(&["play", "--sheet", "bench.sheet", "--cards", "L7", "--drops", "a.words"]);
+    ended.refuses(&["--drops: expected --card"]);
+    folder.kav_reads(&["list", "-"], b"L7??*L").fails(&["word 0 is 14156", "a text needs --text"]);
 }

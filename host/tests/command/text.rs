@@ -62,7 +62,7 @@ fn all_words_together() {
     }
 }
 
-/// Words written by the command: what `normal --words` and `write --words` hold is what their text says.
+/// Words written by the command: what `normal` and `write` hold is what they say with `--spelled`.
 #[test]
 fn written_words() {
     let folder = Folder::new("written");
@@ -71,12 +71,12 @@ fn written_words() {
         let words = said(&format!("R42{}{body}*", char::from(identifier)));
         folder.write("a.txt", text_of(&words) + "\n");
         for command in ["normal", "write"] {
-            let ended = folder.kav(&[command, "--words", "a.txt"]);
+            let ended = folder.kav(&[command, "a.txt"]);
             assert_eq!((words_in(&ended.bytes), ended.status), (words.clone(), 0), "{command} {identifier}");
-            folder.kav(&[command, "a.txt"]).prints(&format!("{}\n", text_of(&words)));
+            folder.kav(&[command, "--spelled", "a.txt"]).prints(&format!("{}\n", text_of(&words)));
         }
         let parts = format!("R42 {} {body}\n", char::from(identifier));
-        let ended = folder.kav_reads(&["write", "--words", "-"], parts.as_bytes());
+        let ended = folder.kav_reads(&["write", "-"], parts.as_bytes());
         assert_eq!((words_in(&ended.bytes), ended.status), (words, 0), "{parts}");
     }
 }
