@@ -1,5 +1,7 @@
 // The boundary for hosts: the calls as C functions over numbers and slices of numbers alone.
 // Each gives back minus the number of its refusal, or a count (`kav_run`: 0). A refused call changes nothing lent.
+#![tactic(auto)]
+
 ghost use Rattle.std.specs.Prelude.{◌≡◌, List, [], ◌∷◌, ℕ, ◌≤◌, ℤ, pos, length};
 ghost use Rattle.refusal.specs.Refusal.{outcome_of, verdict_of, number_of};
 ghost use Rattle.refusal.specs.Check.{first};

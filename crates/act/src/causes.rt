@@ -12,7 +12,7 @@ use sheet::{Entry, Row};
 
 // Why a message is answered with `N` or with silence, or a word with silence: what the paper gives beside the reply. A closed message that
 // isn't well formed has the position of its first character that no well-formed message could have there.
-#[derive(Drop)]
+#[derive(Clone, Copy)]
 pub enum Cause {
     None,
     NoSuchIdentifier,
@@ -29,7 +29,7 @@ pub enum Cause {
 
 // How a message stands with the card, by what the sheets, the values and the offer say, in the order of the tests: each is true where that
 // test is passed, or its type doesn't make it. Whom it is for and minus zero are judged by the setup.
-#[derive(Drop)]
+#[derive(Clone, Copy)]
 pub struct Standing {
     pub offered: bool, // the identifier, for a Type 4
     pub exists: bool, // the row, or the scan

@@ -1,4 +1,6 @@
 // What a card does with a heard message: what it says, the offer afterwards, and what is stored.
+#![tactic(auto)]
+
 ghost use Rattle.std.specs.Prelude.{◌≡◌, pos, get_or};
 ghost use Rattle.number.specs.Data.{with_decimals};
 ghost use Rattle.sheet.specs.Inner.{entry_at};
@@ -18,7 +20,7 @@ pub mod scan;
 pub const MOST_NAMED: usize = 5;
 
 // What a card is set to; the first `count` of `scan` are the identifiers that it names for its scan, and `revision` is 1 or 2 in a sound card.
-#[derive(Drop)]
+#[derive(Clone, Copy)]
 pub struct Setup {
     pub letter: u8,
     pub address: u8,
@@ -28,28 +30,28 @@ pub struct Setup {
 }
 
 // A number that a Type 3 message left, to be stored by a Type 4.
-#[derive(Drop)]
+#[derive(Clone, Copy)]
 pub enum Offer {
     Nothing,
     Held { identifier: u8, value: i32 },
 }
 
 // What a card says to a word.
-#[derive(Drop)]
+#[derive(Clone, Copy)]
 pub enum Said {
     Silence,
     Reply(Answer),
 }
 
 // What is done to the values.
-#[derive(Drop)]
+#[derive(Clone, Copy)]
 pub enum Store {
     Keep,
     Put { place: u8, value: i32 },
 }
 
 // What a heard message leads to.
-#[derive(Drop)]
+#[derive(Clone, Copy)]
 pub struct Effect {
     pub said: Said,
     pub offer: Offer,

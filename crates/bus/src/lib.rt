@@ -1,5 +1,7 @@
 // Many cards on one pair: a run that gives every word to every card. The cards are lent as rows of numbers, one behind the other, with 128
 // values for each.
+#![tactic(auto)]
+
 ghost use Rattle.std.specs.Prelude.{◌≡◌, ◌&&◌, ◌%◌, ◌≤◌, eqb, length};
 ghost use Rattle.refusal.specs.Lists.{every};
 ghost use Rattle.refusal.specs.Refusal.{verdict_of};

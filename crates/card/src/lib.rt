@@ -1,4 +1,6 @@
 // The card: what a word does to it, one word at a time, in place, and a run of words.
+#![tactic(auto)]
+
 ghost use Rattle.std.specs.Prelude.{◌≡◌, true, [], ◌∷◌};
 ghost use Rattle.refusal.specs.Refusal.{verdict_of};
 ghost use Rattle.refusal.specs.Lists.{every};
@@ -20,7 +22,7 @@ use sheet::Entry;
 pub mod answering;
 
 // What a card is set to, the open message, and what is on offer.
-#[derive(Drop)]
+#[derive(Clone, Copy)]
 pub struct Card {
     pub setup: Setup,
     pub pending: Pending,
@@ -28,28 +30,28 @@ pub struct Card {
 }
 
 // What the single word's calls answer: how many bytes were replied, 0 for silence, and why it was `N` or silence.
-#[derive(Drop)]
+#[derive(Clone, Copy)]
 pub enum StepAnswer {
     Refused(Refusal),
     Replied { bytes: usize, cause: Cause },
 }
 
 // What a single word gives: the card beside the answer.
-#[derive(Drop)]
+#[derive(Clone, Copy)]
 pub struct Stepped {
     pub card: Card,
     pub answer: StepAnswer,
 }
 
 // What a run answers: words taken and bytes written.
-#[derive(Drop)]
+#[derive(Clone, Copy)]
 pub enum RunAnswer {
     Refused(Refusal),
     Took { words: usize, bytes: usize },
 }
 
 // What a run gives: the card beside its answer.
-#[derive(Drop)]
+#[derive(Clone, Copy)]
 pub struct Ran {
     pub card: Card,
     pub answer: RunAnswer,

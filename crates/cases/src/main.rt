@@ -30,6 +30,8 @@
 //
 // Standard output has a line for each case, `NAME ok` or `NAME differs at K`, K the first message whose answer is another (0 where
 // the line is no case), and then how many cases there are and how many differ. The empty line is no case.
+#![tactic(auto)]
+
 use libc::{STDIN_FILENO, STDOUT_FILENO};
 use player::Outcome;
 
@@ -42,7 +44,7 @@ mod reader;
 const ROOM: usize = 16384;
 
 // How many cases there were, and how many of them differ.
-#[derive(Drop)]
+#[derive(Clone, Copy)]
 struct Count {
     cases: u64,
     differ: u64,

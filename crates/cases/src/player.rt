@@ -15,21 +15,21 @@ pub(crate) const REPLIES: usize = 2 * reply::LONGEST_REPLY;
 // The most messages that a case has.
 pub(crate) const MESSAGES: usize = 12;
 
-#[derive(Drop)]
+#[derive(Clone, Copy)]
 pub(crate) enum Outcome {
     Same,
     Differs(usize),
 }
 
 // The card after a message, and whether it said what was expected.
-#[derive(Drop)]
+#[derive(Clone, Copy)]
 struct Played {
     card: Card,
     same: bool,
 }
 
 // The card after some words, how many bytes it has said, and the cause that the last word gave; `fine` where no call was refused.
-#[derive(Drop)]
+#[derive(Clone, Copy)]
 struct Saying {
     card: Card,
     said: usize,

@@ -1,4 +1,6 @@
 // The digit writer as it was before request 3, five digits by division: kept to be measured beside the one in `number`, and used for nothing else.
+#![tactic(auto)]
+
 ghost use Rattle.std.specs.Prelude.{◌≡◌, ◌%◌};
 ghost use Rattle.number.specs.Data.{digit, spell_data};
 

@@ -1,4 +1,6 @@
 // Hearing: what a word does to the open message, and the normal form of a recording.
+#![tactic(auto)]
+
 ghost use Rattle.std.specs.Prelude.{◌≡◌, ◌≤◌, take, drop, cond, eqb};
 ghost use Rattle.refusal.specs.Call.{call_of};
 ghost use Rattle.wire.specs.Word.{received};
@@ -19,14 +21,14 @@ mod passes;
 pub const MOST: usize = 10;
 
 // The open message: `len` characters and 0 behind them; none is open where `len` is 0.
-#[derive(Drop)]
+#[derive(Clone, Copy)]
 pub struct Pending {
     pub chars: [u8; MOST],
     pub len: usize,
 }
 
 // What a word does to the open message.
-#[derive(Drop)]
+#[derive(Clone, Copy)]
 pub enum Action {
     Ignore,
     Open(u8),
@@ -36,7 +38,7 @@ pub enum Action {
 }
 
 // The open message after a word, and the message that the word has closed, if it is heard.
-#[derive(Drop)]
+#[derive(Clone, Copy)]
 pub struct Hearing {
     pub pending: Pending,
     pub message: Parsed,
@@ -168,7 +170,7 @@ pub fn hear(pending: Pending, word: u16) -> Hearing
 }
 
 // Where a hearing stands: the count of open characters, and the place of the next word.
-#[derive(Drop)]
+#[derive(Clone, Copy)]
 pub struct Halt {
     pub len: usize,
     pub at: usize,
@@ -186,7 +188,7 @@ fn action_at(len: usize, word: u16) -> Action
 }
 
 // The count of open characters after a word, or that the word closes the message.
-#[derive(Drop)]
+#[derive(Clone, Copy)]
 pub struct Next {
     pub len: usize,
     pub closes: bool,

@@ -20,7 +20,7 @@ fn count_of(message: Parsed) -> usize
 }
 
 // A message that is closed, and the place of its `*`.
-#[derive(Drop)]
+#[derive(Clone, Copy)]
 struct Closing {
     message: Parsed,
     at: usize,

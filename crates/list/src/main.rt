@@ -1,5 +1,7 @@
 // Lists a recording: words from standard input, two bytes each, low byte first; on standard output a line for each message heard.
 // All that a listing says is in the crate `listing`; here it is read and written.
+#![tactic(auto)]
+
 ghost use Rattle.std.specs.Prelude.{◌≡◌, ◌+◌, ◌≤◌, length};
 ghost use Rattle.list.specs.State.{Within};
 
@@ -14,7 +16,7 @@ const BYTES: usize = 8192;
 const ROOM: usize = 32768;
 
 // How far the program is: `from` to `len` are the bytes read and not yet listed, and `used` bytes of output wait to be written.
-#[derive(Drop)]
+#[derive(Clone, Copy)]
 struct State {
     progress: Progress,
     from: usize,
@@ -25,7 +27,7 @@ struct State {
 }
 
 // How many bytes were read, and whether a read failed.
-#[derive(Drop)]
+#[derive(Clone, Copy)]
 struct Reading {
     count: usize,
     failed: bool,

@@ -1,4 +1,6 @@
 // The listing of a recording: the line of a message, the lines of a buffer of words, and the last line.
+#![tactic(auto)]
+
 ghost use Rattle.std.specs.Prelude.{◌≡◌, ◌+◌, ◌<◌, ◌≤◌, [], ◌∷◌, ◌++◌, length, slice_index};
 ghost use Rattle.refusal.specs.Call.{call_of, writes, place_call};
 ghost use Rattle.wire.specs.Text.{chars};
@@ -16,7 +18,7 @@ use refusal::{Refusal, Written};
 pub const LONGEST_LINE: usize = 35;
 
 // How far the listing has come: the open message, the position of the next word, the messages so far.
-#[derive(Drop)]
+#[derive(Clone, Copy)]
 pub struct Progress {
     pub pending: Pending,
     pub at: u64,
@@ -24,7 +26,7 @@ pub struct Progress {
 }
 
 // Why a call stopped: all words are taken, the next word is above 256, or its line has no room.
-#[derive(Drop)]
+#[derive(Clone, Copy)]
 pub enum Stop {
     Done,
     Bad,
@@ -32,7 +34,7 @@ pub enum Stop {
 }
 
 // What a call over a buffer has done.
-#[derive(Drop)]
+#[derive(Clone, Copy)]
 pub struct Listed {
     pub progress: Progress,
     pub taken: usize,
@@ -41,7 +43,7 @@ pub struct Listed {
 }
 
 // How a listing ends: with the number of messages, at the position of a bad word, or with a lone byte.
-#[derive(Drop)]
+#[derive(Clone, Copy)]
 pub enum Ending {
     End(u64),
     Bad(u64),

@@ -1,4 +1,6 @@
 // The digit writer in use and the one that it replaced, as C functions, for the benchmark alone: neither refuses anything.
+#![tactic(auto)]
+
 ghost use Rattle.std.specs.Prelude.{◌≡◌};
 ghost use Rattle.number.specs.Data.{with_decimals, spell_data};
 

@@ -1,4 +1,6 @@
 // A message: read, tested, spelled, and written.
+#![tactic(auto)]
+
 ghost use Rattle.std.specs.Prelude.{◌≡◌, ◌≤◌, length, [], ◌∷◌};
 ghost use Rattle.refusal.specs.Call.{call_of};
 ghost use Rattle.wire.specs.Word.{travelling};
@@ -15,7 +17,7 @@ use wire::Line;
 pub mod recogniser;
 
 // Type 1; Type 2 with `?`, `+` and `-`; Type 3; Type 4.
-#[derive(Drop)]
+#[derive(Clone, Copy)]
 pub enum Body {
     Status,
     Query,
@@ -26,7 +28,7 @@ pub enum Body {
 }
 
 // A message as heard.
-#[derive(Drop)]
+#[derive(Clone, Copy)]
 pub struct Message {
     pub letter: u8,
     pub address: u8,
@@ -35,7 +37,7 @@ pub struct Message {
 }
 
 // What the characters before a `*` are. Document 01: "Anything not well formed is unheard".
-#[derive(Drop)]
+#[derive(Clone, Copy)]
 pub enum Parsed {
     Heard(Message),
     Unheard,
@@ -43,7 +45,7 @@ pub enum Parsed {
 
 // How far the characters of a message have come: `Digit` has one digit of the address, `Address` both, `Digits` stands behind `#`;
 // no well-formed message begins with what is `Wrong`.
-#[derive(Drop)]
+#[derive(Clone, Copy)]
 pub enum Prefix {
     Start,
     Letter(u8),
@@ -71,7 +73,7 @@ pub enum Prefix {
 }
 
 // What stands behind an identifier: one character, or `#` and a number.
-#[derive(Drop)]
+#[derive(Clone, Copy)]
 pub enum Kind {
     Sign(u8),
     Data(Numeral),

@@ -1,6 +1,8 @@
 // The sheets of three real instruments, their initial values by character code, and the identifiers of their scans. A table has a line
 // for each row: identifier, access, decimals, step, least, greatest, initial value. specs/ has the same lines, with their places in the
 // manuals.
+#![tactic(auto)]
+
 ghost use Rattle.std.specs.Prelude.{◌≡◌, true, ◌+◌, ◌*◌, ◌≤◌, length};
 ghost use Rattle.std.proofs.Math.Seq.{paste};
 ghost use Rattle.models.specs.Table.{sheet_of, are_codes, filled, values_of};

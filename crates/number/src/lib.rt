@@ -1,5 +1,7 @@
 // Numbers with decimals: range, multiples of a step, the cut down, and the five digits of data.
 // A number is counted in units of its last decimal.
+#![tactic(auto)]
+
 ghost use Rattle.std.specs.Prelude.{◌≡◌, true, ◌%◌, ◌≤◌, pos, nat_abs};
 ghost use Rattle.std.specs.Int.Signed.{le_z};
 ghost use Rattle.number.specs.Number.{in_range, is_multiple, cut_down, cut, raised, lowered};
@@ -7,14 +9,14 @@ ghost use Rattle.number.specs.Data.{is_digit, as_decimal, fits, fits_numeral, co
 ghost use Rattle.number.specs.Inner.{characters};
 
 // A number in units of its last decimal, and how many decimals it has.
-#[derive(Drop)]
+#[derive(Clone, Copy)]
 pub struct Decimal {
     pub number: i32,
     pub decimals: u8,
 }
 
 // A number as a message has it: the sign of zero, which a number has not, stands beside it.
-#[derive(Drop)]
+#[derive(Clone, Copy)]
 pub struct Numeral {
     pub number: i32,
     pub decimals: u8,
@@ -22,7 +24,7 @@ pub struct Numeral {
 }
 
 // Data as far as it has been read: fewer than five digits, all five, or something that is no data.
-#[derive(Drop)]
+#[derive(Clone, Copy)]
 pub enum Data {
     Partial { count: u8, value: u32 },
     Number(Numeral),

@@ -45,6 +45,7 @@ first_given n (c ∷ cs) e =
     (λ t. later t (first_given n cs (sym (first_passes c cs t) ∙ e)))
 
 pub given_first : (n : ℕ) (cs : List Check) → Given n cs → first cs ≡ refused n
+given_first n [] g = elim g [ ]
 given_first n (c ∷ cs) (here t e) = first_holds c cs t ∙ ap refused e
 given_first n (c ∷ cs) (later t g) = first_passes c cs t ∙ given_first n cs g
 

@@ -1,9 +1,11 @@
 // Why a call is refused, and the answer of every call that writes into a buffer.
+#![tactic(auto)]
+
 ghost use Rattle.std.specs.Prelude.{◌≡◌};
 ghost use Rattle.refusal.specs.Refusal.{number_of};
 
 // Document 01, "Numbers given back when a call is refused", in the order of the numbers; the last is of document 02, ticket 6.
-#[derive(Drop)]
+#[derive(Clone, Copy)]
 pub enum Refusal {
     UnsoundCard,
     UnsoundSheet,
@@ -16,14 +18,14 @@ pub enum Refusal {
 }
 
 // What a call that writes into a buffer answers: how many bytes or words it wrote.
-#[derive(Drop)]
+#[derive(Clone, Copy)]
 pub enum Written {
     Refused(Refusal),
     Wrote(usize),
 }
 
 // Whether a call can be served.
-#[derive(Drop)]
+#[derive(Clone, Copy)]
 pub enum Verdict {
     Refused(Refusal),
     Passed,

@@ -1,4 +1,6 @@
 // A reply: the answer it carries, its spelling, and the reader.
+#![tactic(auto)]
+
 ghost use Rattle.std.specs.Prelude.{◌≡◌, [], ◌∷◌, ◌+◌, ◌≤◌, eqb, length};
 ghost use Rattle.refusal.specs.Lists.{every, same};
 ghost use Rattle.refusal.specs.Buffer.{placed};
@@ -21,7 +23,7 @@ pub const LONGEST_REPLY: usize = 33;
 pub const SCAN: u8 = b']';
 
 // `A`, `I` and `N`.
-#[derive(Drop)]
+#[derive(Clone, Copy)]
 pub enum Mark {
     Accepted,
     Offered,
@@ -29,7 +31,7 @@ pub enum Mark {
 }
 
 // The numbers with their decimals, if any: one, or the four or five of a scan.
-#[derive(Drop)]
+#[derive(Clone, Copy)]
 pub enum Content {
     Empty,
     Number(Decimal),
@@ -37,7 +39,7 @@ pub enum Content {
     Five(Decimal, Decimal, Decimal, Decimal, Decimal),
 }
 
-#[derive(Drop)]
+#[derive(Clone, Copy)]
 pub struct Answer {
     pub letter: u8,
     pub address: u8,
@@ -47,7 +49,7 @@ pub struct Answer {
 }
 
 // What the reader answers.
-#[derive(Drop)]
+#[derive(Clone, Copy)]
 pub enum Reading {
     Refused(Refusal),
     Gave(Answer),

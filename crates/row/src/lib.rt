@@ -1,6 +1,8 @@
 // A card as a row of twenty-three numbers, for hosts and for what holds many cards: letter, address, count of open characters, ten
 // characters (0 behind), 1 or 0 for an offer, its identifier, its value (0, 0 where there is none), count of the scan's identifiers,
 // five identifiers, revision.
+#![tactic(auto)]
+
 ghost use Rattle.std.specs.Prelude.{◌≡◌, [], ◌∷◌, map, ◌≤◌, pos, length, drop};
 ghost use Rattle.refusal.specs.Lists.{every};
 ghost use Rattle.refusal.specs.Buffer.{placed};

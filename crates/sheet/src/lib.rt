@@ -1,5 +1,7 @@
 // Sheets of rows, the lookup of an identifier's row in two of them, and the values that the rows allow.
 // A sheet is lent as numbers, six to a row: identifier, access, decimals, step, least, greatest.
+#![tactic(auto)]
+
 ghost use Rattle.std.specs.Prelude.{◌≡◌, true, ◌+◌, ◌≤◌, length, get_or, take, drop};
 ghost use Rattle.sheet.specs.Sheet.{at, rows, sound_identifier, sound_numbers, sound_row, sound_sheet};
 ghost use Rattle.sheet.specs.Lookup.{has_row, code_is, place_in, row_of, shown, from, row_lies, shown_lies};
@@ -10,7 +12,7 @@ ghost use Rattle.sheet.specs.Inner.{whole_row, entry_at, index_of, part_at, mark
 pub const CODES: usize = 128;
 
 // A row by value, without its identifier.
-#[derive(Drop)]
+#[derive(Clone, Copy)]
 pub struct Row {
     pub access: u8,
     pub decimals: u8,
@@ -20,7 +22,7 @@ pub struct Row {
 }
 
 // What an identifier has: a sound row, or none.
-#[derive(Drop)]
+#[derive(Clone, Copy)]
 pub enum Entry {
     Found(Row),
     Missing,

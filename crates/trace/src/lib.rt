@@ -1,4 +1,6 @@
 // A run that notes, of every message that it closes, where and how it was answered, and why.
+#![tactic(auto)]
+
 ghost use Rattle.std.specs.Prelude.{◌≡◌, true, ◌+◌, ◌*◌, ◌≤◌, length};
 ghost use Rattle.refusal.specs.Refusal.{verdict_of};
 ghost use Rattle.refusal.specs.Buffer.{placed};
@@ -19,7 +21,7 @@ use refusal::{Refusal, Verdict, Written};
 pub const NOTE: usize = 5;
 
 // What a trace gives: what a run gives, beside how many messages were noted, 0 where it is refused.
-#[derive(Drop)]
+#[derive(Clone, Copy)]
 pub struct Traced {
     pub ran: Ran,
     pub messages: usize,

@@ -1,4 +1,6 @@
 // The line: words, characters, even parity, and a short buffer of bytes as they travel.
+#![tactic(auto)]
+
 ghost use Rattle.std.specs.Prelude.{◌≡◌, ◌+◌, ◌≤◌, length, []};
 ghost use Rattle.refusal.specs.Buffer.{placed};
 ghost use Rattle.refusal.specs.Call.{call_of, writes, place_call};
@@ -9,7 +11,7 @@ ghost use Rattle.wire.specs.Inner.{empty, put, puts, bytes_of};
 use refusal::{Refusal, Written};
 
 // What a word carries.
-#[derive(Drop)]
+#[derive(Clone, Copy)]
 pub enum Received {
     Character(u8),
     Nothing,
@@ -19,7 +21,7 @@ pub enum Received {
 pub const LONGEST_MESSAGE: usize = 11;
 
 // Bytes as they travel, 0 behind the last.
-#[derive(Drop)]
+#[derive(Clone, Copy)]
 pub struct Line {
     pub bytes: [u8; LONGEST_MESSAGE],
     pub len: usize,

@@ -17,7 +17,7 @@ use Rattle.bus.proofs.check.Statement.{statement}
 use Rattle.bus.proofs.check.Tie as tie
 
 -- what each test says
-module _ (s : tie.After-sound-rows) where
+module _ (s : tie.After-sound_rows) where
   abbrev numbers : List ℤ
   numbers = s.before.before.args.numbers.now
 
@@ -33,69 +33,69 @@ module _ (s : tie.After-sound-rows) where
   abbrev words : List ℕ
   words = s.before.before.args.words.now
 
-  rows : (is_rows numbers && every sound_card (cards_of numbers)) ≡ s.sound-rows.result
-  rows = sym (s.sound-rows.ensures ∙ rows_sound numbers)
+  rows : (is_rows numbers && every sound_card (cards_of numbers)) ≡ s.sound_rows.result
+  rows = sym (s.sound_rows.ensures ∙ rows_sound numbers)
 
-passed : (e : tie.Else1) → (is_rows (numbers e.before) && every sound_card (cards_of (numbers e.before))) ≡ true
-passed e = rows e.before ∙ not-false _ e.if1.false
+passed : (e : tie.Else-not-sound_rows) → (is_rows (numbers e.before) && every sound_card (cards_of (numbers e.before))) ≡ true
+passed e = rows e.before ∙ not-false _ e.if-not-sound_rows.false
 
-shared : (z : tie.Else2) → sound_bus (cards_of (numbers z.before.before.before)) ≡ true
-shared z = sym z.before.sound-bus.ensures ∙ not-false _ z.if2.false
+shared : (z : tie.Else-not-sound_bus) → sound_bus (cards_of (numbers z.before.before.before)) ≡ true
+shared z = sym z.before.sound_bus.ensures ∙ not-false _ z.if-not-sound_bus.false
 
-sheets : (t : tie.After-sound-sheet2) → let s = t.before.before.before.before.before in (sound_sheet (bench s) && sound_sheet (maker s)) ≡ (t.before.sound-sheet.result && t.sound-sheet2.result)
-sheets t = sym (ap₂ (λ (x y : Bool). x && y) t.before.sound-sheet.ensures t.sound-sheet2.ensures)
+sheets : (t : tie.After-sound_sheet-2) → let s = t.before.before.before.before.before in (sound_sheet (bench s) && sound_sheet (maker s)) ≡ (t.before.sound_sheet.result && t.sound_sheet-2.result)
+sheets t = sym (ap₂ (λ (x y : Bool). x && y) t.before.sound_sheet.ensures t.sound_sheet-2.ensures)
 
-both : (y : tie.Else3) → let s = y.before.before.before.before.before.before in (sound_sheet (bench s) && sound_sheet (maker s)) ≡ true
-both y = sheets y.before ∙ not-false _ y.if3.false
+both : (y : tie.Else-not-sound_sheet) → let s = y.before.before.before.before.before.before in (sound_sheet (bench s) && sound_sheet (maker s)) ≡ true
+both y = sheets y.before ∙ not-false _ y.if-not-sound_sheet.false
 
-fits : (t : tie.After-all-fit) → let s = t.before.before.before.before.before.before.before in every (fits_sheets (bench s) (maker s)) (cards_of (numbers s)) ≡ t.all_fit.result
+fits : (t : tie.After-all_fit) → let s = t.before.before.before.before.before.before.before in every (fits_sheets (bench s) (maker s)) (cards_of (numbers s)) ≡ t.all_fit.result
 fits t = let s = t.before.before.before.before.before.before.before in sym (t.all_fit.ensures ∙ all_fit (bench s) (maker s) (numbers s))
 
-fitted : (x : tie.Else4) → let s = x.before.before.before.before.before.before.before.before in every (fits_sheets (bench s) (maker s)) (cards_of (numbers s)) ≡ true
-fitted x = fits x.before ∙ not-false _ x.if4.false
+fitted : (x : tie.Else-not-all_fit) → let s = x.before.before.before.before.before.before.before.before in every (fits_sheets (bench s) (maker s)) (cards_of (numbers s)) ≡ true
+fitted x = fits x.before ∙ not-false _ x.if-not-all_fit.false
 
-valued : (v : tie.Else5) → let s = v.before.before.before.before.before.before.before.before.before.before in sound_parts (bench s) (maker s) (length (numbers s) / 23) (values s) ≡ true
-valued v = sym v.before.sound-parts.ensures ∙ not-false _ v.if5.false
+valued : (v : tie.Else-not-sound_parts) → let s = v.before.before.before.before.before.before.before.before.before.before in sound_parts (bench s) (maker s) (length (numbers s) / 23) (values s) ≡ true
+valued v = sym v.before.sound_parts.ensures ∙ not-false _ v.if-not-sound_parts.false
 
-sound-parts-requires : tie.Need-sound-parts-requires
+sound-parts-requires : tie.Need-sound_parts-requires
 sound-parts-requires c κs = few (numbers c.before.before.before.before.before.before.before.before) (shared c.before.before.before.before.before)
 
-returns : tie.Need-returns
+returns : tie.Need-returns-then-not-sound_rows
 returns c =
     let s = c.before in
-    sym (rows_unsound (numbers s) (bench s) (maker s) (values s) (words s) (rows s ∙ not-true _ c.if1.true))
+    sym (rows_unsound (numbers s) (bench s) (maker s) (values s) (words s) (rows s ∙ not-true _ c.if-not-sound_rows.true))
 
-returns-2 : tie.Need-returns-2
+returns-2 : tie.Need-returns-then-not-sound_bus
 returns-2 c =
     let e = c.before.before in
     let s = e.before in
-    sym (bus_unsound (numbers s) (bench s) (maker s) (values s) (words s) (passed e) (sym c.before.sound-bus.ensures ∙ not-true _ c.if2.true))
+    sym (bus_unsound (numbers s) (bench s) (maker s) (values s) (words s) (passed e) (sym c.before.sound_bus.ensures ∙ not-true _ c.if-not-sound_bus.true))
 
-returns-3 : tie.Need-returns-3
+returns-3 : tie.Need-returns-then-not-sound_sheet
 returns-3 c =
     let z = c.before.before.before in
     let e = z.before.before in
     let s = e.before in
-    sym (sheets_unsound (numbers s) (bench s) (maker s) (values s) (words s) (passed e) (shared z) (sheets c.before ∙ not-true _ c.if3.true))
+    sym (sheets_unsound (numbers s) (bench s) (maker s) (values s) (words s) (passed e) (shared z) (sheets c.before ∙ not-true _ c.if-not-sound_sheet.true))
 
-returns-4 : tie.Need-returns-4
+returns-4 : tie.Need-returns-then-not-all_fit
 returns-4 c =
     let y = c.before.before in
     let z = y.before.before.before in
     let e = z.before.before in
     let s = e.before in
-    sym (card_unfit (numbers s) (bench s) (maker s) (values s) (words s) (passed e) (shared z) (both y) (fits c.before ∙ not-true _ c.if4.true))
+    sym (card_unfit (numbers s) (bench s) (maker s) (values s) (words s) (passed e) (shared z) (both y) (fits c.before ∙ not-true _ c.if-not-all_fit.true))
 
-returns-5 : tie.Need-returns-5
+returns-5 : tie.Need-returns-then-not-sound_parts
 returns-5 c =
     let x = c.before.before in
     let y = x.before.before in
     let z = y.before.before.before in
     let e = z.before.before in
     let s = e.before in
-    sym (values_unsound (numbers s) (bench s) (maker s) (values s) (words s) (passed e) (shared z) (both y) (fitted x) (sym c.before.sound-parts.ensures ∙ not-true _ c.if5.true))
+    sym (values_unsound (numbers s) (bench s) (maker s) (values s) (words s) (passed e) (shared z) (both y) (fitted x) (sym c.before.sound_parts.ensures ∙ not-true _ c.if-not-sound_parts.true))
 
-returns-6 : tie.Need-returns-6
+returns-6 : tie.Need-returns-then-not-valid_words
 returns-6 c =
     let v = c.before.before in
     let x = v.before.before in
@@ -103,9 +103,9 @@ returns-6 c =
     let z = y.before.before.before in
     let e = z.before.before in
     let s = e.before in
-    sym (word_above (numbers s) (bench s) (maker s) (values s) (words s) (passed e) (shared z) (both y) (fitted x) (valued v) (sym c.before.valid-words.ensures ∙ not-true _ c.if6.true))
+    sym (word_above (numbers s) (bench s) (maker s) (values s) (words s) (passed e) (shared z) (both y) (fitted x) (valued v) (sym c.before.valid_words.ensures ∙ not-true _ c.if-not-valid_words.true))
 
-returns-7 : tie.Need-returns-7
+returns-7 : tie.Need-returns
 returns-7 c =
     let v = c.before.before in
     let x = v.before.before in
@@ -113,9 +113,9 @@ returns-7 c =
     let z = y.before.before.before in
     let e = z.before.before in
     let s = e.before in
-    sym (all_pass (numbers s) (bench s) (maker s) (values s) (words s) (passed e) (shared z) (both y) (fitted x) (valued v) (sym c.before.valid-words.ensures ∙ not-false _ c.if6.false))
+    sym (all_pass (numbers s) (bench s) (maker s) (values s) (words s) (passed e) (shared z) (both y) (fitted x) (valued v) (sym c.before.valid_words.ensures ∙ not-false _ c.if-not-valid_words.false))
 
-pub check-spec : {M : Type 1} → statement M
-check-spec = tie.close (tie.spec
+pub check_spec : {M : Type 1} → statement M
+check_spec = tie.close (tie.spec
     (λ c κs. search rules) returns (λ c κs. search rules) returns-2 (λ c κs. search rules) (λ c κs. search rules) returns-3
     (λ c κs. search rules) returns-4 sound-parts-requires returns-5 (λ c κs. search rules) returns-6 returns-7)

@@ -1,7 +1,7 @@
 -- `card::run` meets its contract: a refused run leaves everything, and a served one is played. Assumes nothing.
 use mathlib.Core.Path.{◌≡◌, sym, ap, ◌∙◌}
-use Rattle.refusal.specs.Refusal.{gave, verdict_of}
-use Rattle.refusal.specs.Check.{first}
+use Rattle.refusal-1.specs.Refusal.{gave, verdict_of}
+use Rattle.refusal-1.specs.Check.{first}
 use Rattle.card.specs.Refusals.{card_checks}
 use Rattle.card.proofs.Steps.{sheets_passed, run_refused, run_served}
 use borrow.Author.Rules.{rules}
@@ -9,23 +9,23 @@ use Rattle.card.proofs.run.Statement.{statement}
 use Rattle.card.proofs.run.Tie as tie
 
 -- the verdict says that the tests are passed
-passed : (k : tie.After-enum-told) → first (card_checks k.before.before.before.before.before.before.args.card k.before.before.before.before.before.before.args.bench.now k.before.before.before.before.before.before.args.maker.now k.before.before.before.before.before.before.args.values.now k.before.before.before.before.before.before.args.words.now) ≡ gave tt
-passed k = sym k.before.before.check.ensures ∙ ap verdict_of k.enum_told.given.1
+passed : (k : tie.In-Passed) → first (card_checks k.before.before.before.before.before.before.args.card k.before.before.before.before.before.before.args.bench.now k.before.before.before.before.before.before.args.maker.now k.before.before.before.before.before.before.args.values.now k.before.before.before.before.before.before.args.words.now) ≡ gave tt
+passed k = sym k.before.before.check.ensures ∙ ap verdict_of k.enum_told-1.given.1
 
-take-all-requires : tie.Need-take-all-requires
+take-all-requires : tie.Need-take_all-requires
 take-all-requires c κs =
     let k = c.before.before in
     let a = k.before.before.before.before.before.before.args in
     sheets_passed a.card a.bench.now a.maker.now a.values.now a.words.now (passed k)
 
-returns : tie.Need-returns
+returns : tie.Need-returns-in-Refused
 returns c =
     let r = c.before in
     let k = r.before.before in
     let a = k.before.before.before.before.args in
-    sym (run_refused a.card a.bench.now a.maker.now a.values.now a.words.now a.out.now _ (sym k.check.ensures ∙ ap verdict_of r.refusal.given.1))
+    sym (run_refused a.card a.bench.now a.maker.now a.values.now a.words.now a.out.now _ (sym k.check.ensures ∙ ap verdict_of r.refusal-1.given.1))
 
-returns-2 : tie.Need-returns-2
+returns-2 : tie.Need-returns-in-Passed
 returns-2 c =
     let t = c.before.before.before in
     let k = t.before.before.before in

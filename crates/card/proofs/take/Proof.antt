@@ -50,10 +50,10 @@ module _ (s : tie.Start) where
   silent h c r e t q =
       ap (λ (x : Stepped). step_after x v out) e ∙ quiet_answered c (why_of NoMessageClosed) v out ∙ served h (stays c) (why_of NoMessageClosed) t q
 
-returns : tie.Need-returns
+returns : tie.Need-returns-then-out-lt-LONGEST_REPLY
 returns c =
     let s = c.before.before.before in
-    ap (λ (x : Stepped). step_after x (v s) (out s)) c.refused.ensures ∙ ap (comes s) (sym (room_short (out s) c.before.if1.true))
+    ap (λ (x : Stepped). step_after x (v s) (out s)) c.refused.ensures ∙ ap (comes s) (sym (room_short (out s) c.before.if-out-lt-LONGEST_REPLY.true))
 
 -- what the word does, with room
 module _ (k : tie.After-action) where
@@ -61,35 +61,35 @@ module _ (k : tie.After-action) where
   begun = k.before.before.before.before
 
   room : longest_reply ≤ length (out begun)
-  room = k.before.before.if1.left
+  room = k.before.before.if-out-lt-LONGEST_REPLY.false
 
-returns-2 : tie.Need-returns-2
+returns-2 : tie.Need-returns-in-Ignore
 returns-2 c =
     let k = c.before.before.before in
     let a = (begun k).args in
-    let did = sym k.action.ensures ∙ c.before.enum_told.given.1 in
+    let did = sym k.action.ensures ∙ c.before.enum_told-1.given.1 in
     silent (begun k) (room k) a.card _ c.quiet.ensures (turn_ignore a.bench.now a.maker.now a.card a.values.now a.word did)
     (why_ignore a.bench.now a.maker.now a.card a.values.now a.word did)
 
-returns-3 : tie.Need-returns-3
+returns-3 : tie.Need-returns-in-Open
 returns-3 c =
     let o = c.before in
     let k = o.before.before.before.before in
     let a = (begun k).args in
-    let did = sym k.action.ensures ∙ o.before.before.c.given.1 in
-    silent (begun k) (room k) _ _ c.quiet2.ensures (turn_open a.bench.now a.maker.now a.card a.values.now a.word _ did ∙ ap stays (sym o.«open».ensures))
+    let did = sym k.action.ensures ∙ o.before.before.c-1.given.1 in
+    silent (begun k) (room k) _ _ c.quiet-in-Open.ensures (turn_open a.bench.now a.maker.now a.card a.values.now a.word _ did ∙ ap stays (sym o.«open».ensures))
     (why_open a.bench.now a.maker.now a.card a.values.now a.word _ did)
 
-returns-4 : tie.Need-returns-4
+returns-4 : tie.Need-returns-in-Add
 returns-4 c =
     let o = c.before in
     let k = o.before.before.before.before in
     let a = (begun k).args in
-    let did = sym k.action.ensures ∙ o.before.before.c2.given.1 in
-    silent (begun k) (room k) _ _ c.quiet3.ensures (turn_add a.bench.now a.maker.now a.card a.values.now a.word _ did ∙ ap stays (sym o.add.ensures))
+    let did = sym k.action.ensures ∙ o.before.before.c-in-Add-1.given.1 in
+    silent (begun k) (room k) _ _ c.quiet-in-Add.ensures (turn_add a.bench.now a.maker.now a.card a.values.now a.word _ did ∙ ap stays (sym o.add.ensures))
     (why_add a.bench.now a.maker.now a.card a.values.now a.word _ did)
 
-returns-5 : tie.Need-returns-5
+returns-5 : tie.Need-returns-in-Close
 unfolding turned
 returns-5 c =
     let r = c.before.before.before in
@@ -101,22 +101,22 @@ returns-5 c =
     let a = s.args in
     let x = effect_of a.bench.now a.maker.now in
     let y = why_closed a.bench.now a.maker.now in
-    let did = sym k.action.ensures ∙ t.enum-told2.given.1 in
+    let did = sym k.action.ensures ∙ t.enum_told-in-Close-1.given.1 in
     r.answer.ensures
-    ∙ ap₂ (λ (h : Card) (q : Parsed). answered (turned h h.pending (x h.setup h.offer (v s) q)) (y h.setup h.offer (v s) (open_of a.card.pending) q) (v s) (out s)) d.close2.ensures p.close.ensures
+    ∙ ap₂ (λ (h : Card) (q : Parsed). answered (turned h h.pending-1 (x h.setup h.offer (v s) q)) (y h.setup h.offer (v s) (open_of a.card.pending-1) q) (v s) (out s)) d.close.ensures p.close-parsed.ensures
     ∙ served s (room k) _ _ (turn_close a.bench.now a.maker.now a.card (v s) a.word did) (why_close a.bench.now a.maker.now a.card (v s) a.word did)
 
-returns-6 : tie.Need-returns-6
+returns-6 : tie.Need-returns-in-Drop
 returns-6 c =
     let d = c.before in
     let k = d.before.before.before in
     let a = (begun k).args in
-    let did = sym k.action.ensures ∙ d.before.enum-told3.given.1 in
-    silent (begun k) (room k) _ _ c.quiet4.ensures (turn_drop a.bench.now a.maker.now a.card a.values.now a.word did ∙ ap stays (sym d.close3.ensures))
+    let did = sym k.action.ensures ∙ d.before.enum_told-in-Drop-1.given.1 in
+    silent (begun k) (room k) _ _ c.quiet-in-Drop.ensures (turn_drop a.bench.now a.maker.now a.card a.values.now a.word did ∙ ap stays (sym d.close-in-Drop.ensures))
     (why_drop a.bench.now a.maker.now a.card a.values.now a.word did)
 
 pub take_spec : {M : Type 1} → statement M
-take_spec = tie.close (tie.spec
+take_spec = tie.close-parsed (tie.spec
     (λ c κs. search rules) returns (λ c κs. search rules) (λ c. search rules) (λ c κs. search rules) (λ c. search rules)
     (λ c κs. search rules) (λ c κs. search rules) (λ c. search rules) (λ c κs. search rules) (λ c κs. search rules) (λ c. search rules)
     (λ c κs. search rules) (λ c κs. search rules) (λ c κs. search rules) (λ c. search rules) (λ c κs. search rules) (λ c κs. search rules)

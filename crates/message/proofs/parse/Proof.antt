@@ -20,11 +20,11 @@ use borrow.Author.Rules.{rules}
 use Rattle.message.proofs.parse.Statement.{statement}
 use Rattle.message.proofs.parse.Tie as tie
 
-returns : tie.Need-returns
-returns c = sym (too-short _ c.if1.true)
+returns : tie.Need-returns-then-characters-lt4
+returns c = sym (too-short _ c.if-characters-lt4.true)
 
 -- the first characters
-module _ (t : tie.After-is-letter) where
+module _ (t : tie.After-is_letter) where
   abbrev cs : List ℕ
   cs = t.before.before.before.before.before.args.characters.now
 
@@ -41,23 +41,23 @@ module _ (t : tie.After-is-letter) where
   unfolding parse
   past = past_two Start cs (omega arith)
 
-returns-2 : tie.Need-returns-2
+returns-2 : tie.Need-returns-then-not-is_letter
 returns-2 c =
     let t = c.before in
-    sym (past t ∙ no_letter (l t) (d t) (drop 2 (cs t)) (sym t.is-letter.ensures ∙ not-true _ c.if2.true))
+    sym (past t ∙ no_letter (l t) (d t) (drop 2 (cs t)) (sym t.is_letter.ensures ∙ not-true _ c.if-not-is_letter.true))
 
-is-letter : (c : tie.Else2) → is_letter (l c.before) ≡ true
-is-letter c = sym c.before.is-letter.ensures ∙ not-false _ c.if2.false
+is-letter : (c : tie.Else-not-is_letter) → is_letter (l c.before) ≡ true
+is-letter c = sym c.before.is_letter.ensures ∙ not-false _ c.if-not-is_letter.false
 
-returns-3 : tie.Need-returns-3
+returns-3 : tie.Need-returns-then-not-is_digit
 returns-3 c =
     let k = c.before.before in
     let t = k.before in
-    sym (past t ∙ no_digit (l t) (d t) (drop 2 (cs t)) (is-letter k) (sym c.before.is_digit.ensures ∙ not-true _ c.if3.true))
+    sym (past t ∙ no_digit (l t) (d t) (drop 2 (cs t)) (is-letter k) (sym c.before.is_digit.ensures ∙ not-true _ c.if-not-is_digit.true))
 
 -- behind a letter and a digit
-module _ (c : tie.Else3) where
-  abbrev there : tie.After-is-letter
+module _ (c : tie.Else-not-is_digit) where
+  abbrev there : tie.After-is_letter
   there = c.before.before.before
 
   -- the address of one digit, and of two
@@ -68,7 +68,7 @@ module _ (c : tie.Else3) where
   two = digit_of (d there) * 10 + digit_of (e there)
 
   is-digit : is_digit (d there) ≡ true
-  is-digit = sym c.before.is_digit.ensures ∙ not-false _ c.if3.false
+  is-digit = sym c.before.is_digit.ensures ∙ not-false _ c.if-not-is_digit.false
 
   past-digit : parse (cs there) ≡ leads (Digit (l there) one) (drop 2 (cs there))
   past-digit = past there ∙ ap (λ (s : Prefix). leads s (drop 2 (cs there))) (first_digit (l there) (d there) (is-letter c.before.before) is-digit)
@@ -90,34 +90,34 @@ module _ (c : tie.Else3) where
       past-digit
       ∙ one_is_all (l there) one (drop 2 (cs there)) (λ h. omega (arith, length-drop 2 (cs there))) (λ h. omega (arith, length-drop 2 (cs there)))
 
-sub-address : tie.Need-overflow-sub-address
+sub-address : tie.Need-overflow_sub-address
 sub-address c = (digit_ends _ (is-digit c.before)).0
 
-returns-4 : tie.Need-returns-4
+returns-4 : tie.Need-returns-then-not-is_digit-2
 returns-4 c =
     let f = c.before.before in
     let k = f.before.before.before in
     let t = there k in
-    let n = f.if5.true in
+    let n = f.if-characters-eq5.true in
     sym
-    (by_one k (sym c.before.is-digit2.ensures ∙ not-true _ c.if6.true)
+    (by_one k (sym c.before.is_digit-then-characters-eq5.ensures ∙ not-true _ c.if-not-is_digit-2.true)
     ∙ wrong_length (l t) (one k) (drop 2 (cs t)) (λ h. omega (arith, length-drop 2 (cs t))) (λ h. omega (arith, length-drop 2 (cs t))))
 
-is-second : (c : tie.Else6) → is_digit (e (there c.before.before.before.before.before)) ≡ true
-is-second c = sym c.before.is-digit2.ensures ∙ not-false _ c.if6.false
+is-second : (c : tie.Else-not-is_digit-2) → is_digit (e (there c.before.before.before.before.before)) ≡ true
+is-second c = sym c.before.is_digit-then-characters-eq5.ensures ∙ not-false _ c.if-not-is_digit-2.false
 
-mul-address : tie.Need-overflow-mul-address
+mul-address : tie.Need-overflow_mul-address
 mul-address c = record { fits = omega (arith, (digit_ends _ (is-digit c.before.before.before.before.before)).1) }
 
-sub-address-2 : tie.Need-overflow-sub-address-2
+sub-address-2 : tie.Need-overflow_sub-address-then-characters-eq5
 sub-address-2 c = (digit_ends _ (is-second c)).0
 
-add-address : tie.Need-overflow-add-address
+add-address : tie.Need-overflow_add-address
 add-address c = record { fits = omega (arith, (digit_ends _ (is-digit c.before.before.before.before.before)).1, (digit_ends _ (is-second c)).1) }
 
 -- an address, an identifier and one character, by the length
-module _ (j : tie.Joined5) where
-  abbrev from : tie.Else3
+module _ (j : tie.Joined-characters-eq5) where
+  abbrev from : tie.Else-not-is_digit
   from = j.before.before.before
 
   abbrev chars : List ℕ
@@ -127,11 +127,11 @@ module _ (j : tie.Joined5) where
   abbrev signed : ℕ → ℕ → ℕ → Parsed
   signed a i k = finish (extend (extend (Address (l (there from)) a) i) (get_or chars k 0))
 
-  with-these : {a i k : ℕ} → j.if5.address ≡ a → j.if5.identifier ≡ i → length chars - 1 ≡ k → parse chars ≡ signed a i k
-      → signed j.if5.address j.if5.identifier (length chars - 1) ≡ parse chars
+  with-these : {a i k : ℕ} → j.if-characters-eq5.address ≡ a → j.if-characters-eq5.identifier ≡ i → length chars - 1 ≡ k → parse chars ≡ signed a i k
+      → signed j.if-characters-eq5.address j.if-characters-eq5.identifier (length chars - 1) ≡ parse chars
   with-these p q r z = cc
 
-  sign-is : signed j.if5.address j.if5.identifier (length chars - 1) ≡ parse chars
+  sign-is : signed j.if-characters-eq5.address j.if-characters-eq5.identifier (length chars - 1) ≡ parse chars
   unfolding digit_of
   sign-is =
       ⊎_elim
@@ -142,60 +142,60 @@ module _ (j : tie.Joined5) where
       (λ w.
       let n : length chars ≡ 4 = omega (arith, w.0.left) in
       with-these w.1 w.2 (omega arith) (by-four from n ∙ last_two (Address (l (there from)) (one from)) chars 2 n))
-      j.if5.came
+      j.if-characters-eq5.came
 
-returns-5 : tie.Need-returns-5
-returns-5 c = c.with-sign.ensures ∙ sign-is c.before.before
+returns-5 : tie.Need-returns-then-characters-lt6
+returns-5 c = c.with_sign.ensures ∙ sign-is c.before.before
 
-second_is : (c : tie.Then7) → is_digit (e (there c.before.before.before.before)) ≡ true
-second_is c = sym c.before.is-digit3.ensures ∙ c.if7.true
+second_is : (c : tie.Then-is_digit) → is_digit (e (there c.before.before.before.before)) ≡ true
+second_is c = sym c.before.is_digit-2.ensures ∙ c.if-is_digit.true
 
-mul-address-2 : tie.Need-overflow-mul-address-2
+mul-address-2 : tie.Need-overflow_mul-address-then-is_digit
 mul-address-2 c = record { fits = omega (arith, (digit_ends _ (is-digit c.before.before.before.before)).1) }
 
-sub-address-3 : tie.Need-overflow-sub-address-3
+sub-address-3 : tie.Need-overflow_sub-address-then-is_digit
 sub-address-3 c = (digit_ends _ (second_is c)).0
 
-add-address-2 : tie.Need-overflow-add-address-2
+add-address-2 : tie.Need-overflow_add-address-then-is_digit
 add-address-2 c = record { fits = omega (arith, (digit_ends _ (is-digit c.before.before.before.before)).1, (digit_ends _ (second_is c)).1) }
 
 -- an address and what stands behind it, by the second digit
-module _ (j : tie.Joined7) where
-  abbrev at-digit : tie.Else3
+module _ (j : tie.Joined-is_digit) where
+  abbrev at-digit : tie.Else-not-is_digit
   at-digit = j.before.before.before.before
 
   abbrev all : List ℕ
   all = cs (there at-digit)
 
-  near : j.if7.at ≤ 3
-  near = ⊎_elim (λ w. omega arith) (λ w. omega arith) j.if7.came
+  near : j.if-is_digit.at ≤ 3
+  near = ⊎_elim (λ w. omega arith) (λ w. omega arith) j.if-is_digit.came
 
-  rest-is : leads (Address (l (there at-digit)) j.if7.address) (drop j.if7.at all) ≡ parse all
+  rest-is : leads (Address (l (there at-digit)) j.if-is_digit.address) (drop j.if-is_digit.at all) ≡ parse all
   unfolding digit_of
   rest-is =
       ⊎_elim
-      (λ w. ap₂ (λ (a k : ℕ). leads (Address (l (there at-digit)) a) (drop k all)) w.1 w.2 ∙ sym (by_two at-digit (sym j.before.is-digit3.ensures ∙ w.0.taken)))
-      (λ w. ap₂ (λ (a k : ℕ). leads (Address (l (there at-digit)) a) (drop k all)) w.1 w.2 ∙ sym (by_one at-digit (sym j.before.is-digit3.ensures ∙ w.0.left)))
-      j.if7.came
+      (λ w. ap₂ (λ (a k : ℕ). leads (Address (l (there at-digit)) a) (drop k all)) w.1 w.2 ∙ sym (by_two at-digit (sym j.before.is_digit-2.ensures ∙ w.0.taken)))
+      (λ w. ap₂ (λ (a k : ℕ). leads (Address (l (there at-digit)) a) (drop k all)) w.1 w.2 ∙ sym (by_one at-digit (sym j.before.is_digit-2.ensures ∙ w.0.left)))
+      j.if-is_digit.came
 
-sub-with-data : tie.Need-overflow-sub-with-data
+sub-with-data : tie.Need-slice_bounds-with_data-count
 sub-with-data c = omega (arith, near c.before)
 
-part-with-data-start : tie.Need-slice-bounds-with-data-start
-part-with-data-start c = let h : c.before.if7.at ≤ length (all c.before) = sub-with-data c in search rules
+part-with-data-start : tie.Need-slice_bounds-with_data-start
+part-with-data-start c = let h : c.before.if-is_digit.at ≤ length (all c.before) = sub-with-data c in search rules
 
-with-data-requires : tie.Need-with-data-requires
+with-data-requires : tie.Need-with_data-requires
 with-data-requires c κs =
     let j = c.before.before in
-    subst (λ (ds : List ℕ). 3 ≤ length ds) (sym (part_all (all j) j.if7.at)) (omega (arith, near j, length-drop j.if7.at (all j)))
+    subst (λ (ds : List ℕ). 3 ≤ length ds) (sym (part_all (all j) j.if-is_digit.at)) (omega (arith, near j, length-drop j.if-is_digit.at (all j)))
 
-returns-6 : tie.Need-returns-6
+returns-6 : tie.Need-returns
 returns-6 c =
     let j = c.before.before.before in
-    c.with-data.ensures ∙ ap (leads (Address (l (there (at-digit j))) j.if7.address)) (part_all (all j) j.if7.at) ∙ rest-is j
+    c.with_data.ensures ∙ ap (leads (Address (l (there (at-digit j))) j.if-is_digit.address)) (part_all (all j) j.if-is_digit.at) ∙ rest-is j
 
-pub parse-spec : {M : Type 1} → statement M
-parse-spec = tie.close (tie.spec
+pub parse_spec : {M : Type 1} → statement M
+parse_spec = tie.close (tie.spec
     returns (λ c. search rules) (λ c. search rules) (λ c κs. search rules) returns-2 (λ c κs. search rules) returns-3 (λ c. search rules)
     sub-address (λ c κs. search rules) returns-4 mul-address sub-address-2 add-address (λ c. search rules) (λ c. search rules)
     (λ c. search rules) (λ c κs. search rules) returns-5 (λ c κs. search rules) mul-address-2 sub-address-3 add-address-2 sub-with-data

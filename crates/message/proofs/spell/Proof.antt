@@ -11,34 +11,34 @@ use Rattle.message.proofs.spell.Statement.{statement}
 use Rattle.message.proofs.spell.Tie as tie
 
 -- the line before the body, and which body it is
-module _ (k : tie.After-kind-of) where
+module _ (k : tie.After-kind_of) where
   abbrev asked : Message
   asked = k.before.before.before.before.before.args.message
 
-  ends : (l₄ l₅ : Line) → l₄ ≡ puts k.before.put2.result (spell_body asked.body) → l₅ ≡ put l₄ star → l₅ ≡ line_of (spell asked)
+  ends : (l₄ l₅ : Line) → l₄ ≡ puts k.before.put-front.result (spell_body asked.body) → l₅ ≡ put l₄ star → l₅ ≡ line_of (spell asked)
   ends l₄ l₅ e₄ e₅ =
       let i = k.before in
       let a = i.before in
       let l = a.before in
-      spelled_line asked _ _ _ _ _ _ l.before.new.ensures l.put.ensures a.put-address.ensures i.put2.ensures e₄ e₅
+      spelled_line asked _ _ _ _ _ _ l.before.new.ensures l.put-letter.ensures a.put_address-address.ensures i.put-front.ensures e₄ e₅
 
-returns : tie.Need-returns
+returns : tie.Need-returns-in-Sign
 unfolding spell_kind puts
 returns c =
     let s = c.before.before.before in
     let k = s.before.before in
-    ends k _ _ (c.before.put3.ensures ∙ sym (rw (sym k.kind-of.ensures ∙ s.c.given.1))) c.put4.ensures
+    ends k _ _ (c.before.put.ensures ∙ sym (rw (sym k.kind_of.ensures ∙ s.c-1.given.1))) c.put-in-Sign.ensures
 
-returns-2 : tie.Need-returns-2
+returns-2 : tie.Need-returns-in-Data
 unfolding spell_kind puts
 returns-2 c =
     let d = c.before in
     let s = d.before.before.before in
     let k = s.before.before in
-    ends k _ _ (d.put-data.ensures ∙ sym (rw (sym k.kind-of.ensures ∙ s.x.given.1) (rw d.before.put5.ensures))) c.put6.ensures
+    ends k _ _ (d.put_data.ensures ∙ sym (rw (sym k.kind_of.ensures ∙ s.x-1.given.1) (rw d.before.put-in-Data.ensures))) c.put-in-Data-2.ensures
 
-pub spell-spec : {M : Type 1} → statement M
-spell-spec = tie.close (tie.spec
+pub spell_spec : {M : Type 1} → statement M
+spell_spec = tie.close (tie.spec
     (λ c κs. search rules) (λ c κs. search rules) (λ c κs. search rules) (λ c κs. search rules) (λ c κs. search rules) (λ c. search rules)
     (λ c κs. search rules) (λ c κs. search rules) (λ c. search rules) (λ c κs. search rules) (λ c κs. search rules) (λ c κs. search rules)
     returns returns-2)

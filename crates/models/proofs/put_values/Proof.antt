@@ -42,93 +42,93 @@ module _ (table : List (List ℤ)) (i : ℕ) (h : i < length table) where
   unfolding filled
   filled_more vs = rw here
 
-abbrev invariant-loop : tie.invariant-loop
+abbrev invariant-loop : tie.invariant-loop-i
 invariant-loop table values₀ i₀ values i =
     (i ≤ length table) × (length values ≡ 128) × (are_codes (drop i table) ≡ true) × (filled values₀ table ≡ filled values (drop i table))
 
-abbrev decreases-loop : tie.decreases-loop
+abbrev decreases-loop : tie.decreases-loop-i
 decreases-loop table values₀ i₀ values i = length table - i
 
-loop-holds : tie.Need-loop-init invariant-loop decreases-loop
+loop-holds : tie.Need-loop-i-init invariant-loop decreases-loop
 loop-holds c = (omega arith, c.requires.1, c.requires.0, refl)
 
-mul-place : tie.Need-overflow-mul-place invariant-loop decreases-loop
+mul-place : tie.Need-offset_bounds-table-i invariant-loop decreases-loop
 mul-place c = omega arith
 
-index-1-place : tie.Need-bounds-1-place invariant-loop decreases-loop
+index-1-place : tie.Need-bounds-table-i invariant-loop decreases-loop
 index-1-place c = omega arith
 
-index-2-place : tie.Need-bounds-2-place invariant-loop decreases-loop
+index-2-place : tie.Need-bounds-table-0 invariant-loop decreases-loop
 index-2-place c = omega arith
 
 -- the place read is that of a character code
-module _ (c : tie.After-place invariant-loop decreases-loop) where
-  abbrev turn : tie.At-loop invariant-loop decreases-loop
+module _ (c : tie.After-place-1 invariant-loop decreases-loop) where
+  abbrev turn : tie.At-loop-i invariant-loop decreases-loop
   turn = c.before.before
 
   abbrev table : List (List ℤ)
   table = turn.before.args.table.now
 
   abbrev i : ℕ
-  i = turn.loop.i
+  i = turn.loop-i.i
 
   more : i < length table
   more = omega arith
 
   read : SFits w32 (at (get_or table i []) 0)
-  read = record { sfits = c.place.given }
+  read = record { sfits = c.place-1.given }
 
   code : T (non_neg (rd (at (get_or table i []) 0))) × (nat_abs (rd (at (get_or table i []) 0)) ≤ 127)
-  code = range-cast (pos 0) (at (get_or table i []) 0) (pos 127) refl (code_here table i more turn.loop.inv.2) read
+  code = range-cast (pos 0) (at (get_or table i []) 0) (pos 127) refl (code_here table i more turn.loop-i.invariant.2) read
 
-cast-place : tie.Need-overflow-cast-place invariant-loop decreases-loop
+cast-place : tie.Need-overflow_cast-place invariant-loop decreases-loop
 cast-place c = ((code c).0, record { fits = omega (arith, (code c).1) })
 
-mul-values : tie.Need-overflow-mul-values invariant-loop decreases-loop
+mul-values : tie.Need-offset_bounds-table-i-in-loop-i invariant-loop decreases-loop
 mul-values c = omega arith
 
-index-1-values : tie.Need-bounds-1-values invariant-loop decreases-loop
+index-1-values : tie.Need-bounds-table-i-in-loop-i invariant-loop decreases-loop
 index-1-values c = omega arith
 
-index-2-values : tie.Need-bounds-2-values invariant-loop decreases-loop
+index-2-values : tie.Need-bounds-table-6 invariant-loop decreases-loop
 index-2-values c = omega arith
 
-mul-t14 : tie.Need-overflow-mul-t14 invariant-loop decreases-loop
+mul-t14 : tie.Need-offset_bounds-values-place invariant-loop decreases-loop
 mul-t14 c = omega (arith, (code c.before).1)
 
-slice-set-from-values : tie.Need-slice-set-from-values invariant-loop decreases-loop
+slice-set-from-values : tie.Need-bounds-values-place invariant-loop decreases-loop
 slice-set-from-values c = omega (arith, (code c.before).1)
 
-add-i : tie.Need-overflow-add-i invariant-loop decreases-loop
+add-i : tie.Need-overflow_add-i invariant-loop decreases-loop
 add-i c = omega arith
 
-loop-less : tie.Need-loop-smaller invariant-loop decreases-loop
+loop-less : tie.Need-loop-i-smaller invariant-loop decreases-loop
 loop-less c = omega arith
 
-loop-again : tie.Need-loop-preserved invariant-loop decreases-loop
+loop-again : tie.Need-loop-i-preserved invariant-loop decreases-loop
 loop-again c =
     let b = c.before in
-    let l = (turn b).loop in
-    let value = rd-is {z = at (get_or (table b) (i b) []) 6} (record { sfits = c.values.given }) in (
+    let l = (turn b).loop-i in
+    let value = rd-is {z = at (get_or (table b) (i b) []) 6} (record { sfits = c.values-1.given }) in (
       omega arith,
-      length-set l.values _ _ ∙ l.inv.1,
+      length-set l.values-1 _ _ ∙ l.inv.1,
       codes-more (table b) (i b) (more b) l.inv.2,
       l.inv.3
-          ∙ filled_more (table b) (i b) (more b) l.values
-          ∙ ap₂ (λ (x v : ℤ). filled (set l.values (nat_abs x) v) (drop (i b + 1) (table b))) (sym (rd-is (read b))) (sym value),
+          ∙ filled_more (table b) (i b) (more b) l.values-1
+          ∙ ap₂ (λ (x v : ℤ). filled (set l.values-1 (nat_abs x) v) (drop (i b + 1) (table b))) (sym (rd-is (read b))) (sym value),
     )
 
-same_length : tie.Need-same-length invariant-loop decreases-loop
-same_length c = c.before.loop.invariant.1 ∙ sym c.before.before.requires.1
+same_length : tie.Need-shape_of-values invariant-loop decreases-loop
+same_length c = c.before.loop-i.invariant.1 ∙ sym c.before.before.requires.1
 
 returns : tie.Need-returns invariant-loop decreases-loop
 unfolding filled
 returns c =
     let l = c.before in
     let a = l.before.args in
-    sym (l.loop.invariant.3 ∙ ap (filled l.loop.values) (drop_of_length-le a.table.now {i = l.loop.i} (omega arith)))
+    sym (l.loop-i.invariant.3 ∙ ap (filled l.loop-i.values) (drop_of_length-le a.table.now {i = l.loop-i.i} (omega arith)))
 
-pub put-values-spec : {M : Type 1} → statement M
-put-values-spec = tie.close (tie.spec
+pub put_values_spec : {M : Type 1} → statement M
+put_values_spec = tie.close (tie.spec
     invariant-loop decreases-loop loop-holds mul-place index-1-place index-2-place cast-place mul-values index-1-values index-2-values mul-t14
     slice-set-from-values add-i loop-less loop-again same_length returns)

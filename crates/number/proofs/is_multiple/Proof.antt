@@ -23,24 +23,24 @@ module _ (s : tie.Start) where
   x-is = rd-is s.ranges.x
 
   step_is : rd s.args.step ≡ s.args.step
-  step_is = rd-is s.fits.step
+  step_is = rd-is s.ranges.step
 
 -- a step of 1
-returns : tie.Need-returns
+returns : tie.Need-returns-then-step-eq1
 returns c =
     let s = c.before in
-    let one : s.args.step ≡ pos 1 = sym (step_is s) ∙ ap (to_z w32) c.if1.true in
+    let one : s.args.step ≡ pos 1 = sym (step_is s) ∙ ap (to_z w32) c.if-step-eq1.true in
     sym (ap (is_multiple s.args.x) one ∙ one_multiple s.args.x)
 
-passed : (c : tie.Then2) → le_z (pos 1) c.before.before.args.step ≡ true
-passed c = simp (step_is c.before.before) at c.if2.true
+passed : (c : tie.Then-step-ge1) → le_z (pos 1) c.before.before.args.step ≡ true
+passed c = simp (step_is c.before.before) at c.if-step-ge1.true
 
-rem-result : tie.Need-nonzero-rem-result
+rem-result : tie.Need-nonzero_rem-result
 rem-result c =
     let s = c.before.before in
     simp (x-is s, step_is s) (rem_asks s.args.x s.args.step s.ranges.x (passed c))
 
-returns-2 : tie.Need-returns-2
+returns-2 : tie.Need-returns-then-step-ge1
 returns-2 c =
     let s = c.before.before in
     simp (x-is s, step_is s)
@@ -48,10 +48,10 @@ returns-2 c =
     ∙ ap (λ (k : ℕ). eqb k 0) (nat_abs_rem s.args.x s.args.step)
     ∙ multiple-by s.args.x s.args.step (passed c))
 
-returns-3 : tie.Need-returns-3
+returns-3 : tie.Need-returns-else-step-ge1
 returns-3 c =
     let s = c.before.before in
-    multiple-by s.args.x s.args.step (simp (step_is s) at c.if2.false)
+    multiple-by s.args.x s.args.step (simp (step_is s) at c.if-step-ge1.false)
 
-pub is-multiple-spec : {M : Type 1} → statement M
-is-multiple-spec = tie.close (tie.spec returns rem-result returns-2 returns-3)
+pub is_multiple_spec : {M : Type 1} → statement M
+is_multiple_spec = tie.close (tie.spec returns rem-result returns-2 returns-3)

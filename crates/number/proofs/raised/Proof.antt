@@ -9,22 +9,22 @@ use borrow.Author.Rules.{rules}
 use Rattle.number.proofs.raised.Statement.{statement}
 use Rattle.number.proofs.raised.Tie as tie
 
-was : (c : tie.After-in-range2) → (is_small c.before.before.args.x && is_small c.before.before.args.step) ≡ (c.before.in-range.result && c.in-range2.result)
+was : (c : tie.After-in_range-2) → (is_small c.before.before.args.x && is_small c.before.before.args.step) ≡ (c.before.in_range.result && c.in_range-2.result)
 was c = cc (rd-is c.before.before.ranges.x, rd-is c.before.before.ranges.step)
 
-add-result : tie.Need-overflow-add-result
+add-result : tie.Need-overflow_add-result
 add-result c =
-    let f = c.before.before.before.ranges in step_fits ◌+ℤ◌ nat_abs_add f.x f.step (was c.before ∙ c.if1.true)
+    let f = c.before.before.before.ranges in step_fits ◌+ℤ◌ nat_abs_add f.x f.step (was c.before ∙ c.if-in_range.true)
 
-returns : tie.Need-returns
+returns : tie.Need-returns-then-in_range
 unfolding raised
 returns c =
-    let f = c.before.before.before.ranges in step_taken ◌+ℤ◌ nat_abs_add f.x f.step (was c.before ∙ c.if1.true)
+    let f = c.before.before.before.ranges in step_taken ◌+ℤ◌ nat_abs_add f.x f.step (was c.before ∙ c.if-in_range.true)
 
-returns-2 : tie.Need-returns-2
+returns-2 : tie.Need-returns-else-in_range
 unfolding raised
 returns-2 c =
-    let f = c.before.before.before.ranges in step_left ◌+ℤ◌ nat_abs_add f.x f.step (was c.before ∙ c.if1.false)
+    let f = c.before.before.before.ranges in step_left ◌+ℤ◌ nat_abs_add f.x f.step (was c.before ∙ c.if-in_range.false)
 
-pub raised-spec : {M : Type 1} → statement M
-raised-spec = tie.close (tie.spec (λ c κs. search rules) (λ c κs. search rules) add-result returns returns-2)
+pub raised_spec : {M : Type 1} → statement M
+raised_spec = tie.close (tie.spec (λ c κs. search rules) (λ c κs. search rules) add-result returns returns-2)

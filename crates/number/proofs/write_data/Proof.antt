@@ -13,41 +13,41 @@ use Rattle.number.proofs.write_data.Statement.{statement}
 use Rattle.number.proofs.write_data.Tie as tie
 
 -- what is written, and what the calls before the test gave of it
-abbrev given : tie.After-code → Decimal
+abbrev given : tie.After-code-k → Decimal
 given t = t.before.before.before.before.args.x
 
-read : (t : tie.After-code) → rd (given t).number ≡ (given t).number
-read t = rd-is (record { sfits = t.before.before.before.struct_told.given.0.1 })
+read : (t : tie.After-code-k) → rd (given t).number ≡ (given t).number
+read t = rd-is (record { sfits = t.before.before.before.struct_told-1.given.0.1 })
 
-magnitude-is : (t : tie.After-code) → t.before.before.magnitude.result ≡ nat_abs (given t).number
-magnitude-is t = t.before.before.magnitude.ensures ∙ ap nat_abs (read t)
+magnitude-is : (t : tie.After-code-k) → t.before.before.magnitude-m.result ≡ nat_abs (given t).number
+magnitude-is t = t.before.before.magnitude-m.ensures ∙ ap nat_abs (read t)
 
-code-is : (t : tie.After-code) → t.code.result ≡ code_of (given t).number (given t).decimals
-code-is t = t.code.ensures ∙ ap (λ (z : ℤ). code_of z (given t).decimals) (read t)
+code-is : (t : tie.After-code-k) → t.code-k.result ≡ code_of (given t).number (given t).decimals
+code-is t = t.code-k.ensures ∙ ap (λ (z : ℤ). code_of z (given t).decimals) (read t)
 
-five-digits-requires : tie.Need-five-digits-requires
+five-digits-requires : tie.Need-five_digits-requires
 five-digits-requires c κs =
     let t = c.before.before.before in
-    let few : (given t).decimals ≤ 3 = c.before.if1.true in
-    (omega (arith, c.last-four.ensures), omega (arith, code-is t, code_below (given t).number (given t).decimals))
+    let few : (given t).decimals ≤ 3 = c.before.if-x-le3.true in
+    (omega (arith, c.last_four.ensures), omega (arith, code-is t, code_below (given t).number (given t).decimals))
 
-returns : tie.Need-returns
+returns : tie.Need-returns-then-x-le3
 unfolding spell_data
 returns c =
     let t = c.before.before.before.before in
-    c.five-digits.ensures
-    ∙ ap₂ five_digits (c.before.last-four.ensures ∙ ap (λ (m : ℕ). m % 10000) (magnitude-is t)) (code-is t)
+    c.five_digits.ensures
+    ∙ ap₂ five_digits (c.before.last_four.ensures ∙ ap (λ (m : ℕ). m % 10000) (magnitude-is t)) (code-is t)
     ∙ four_written (nat_abs (given t).number) (code_of (given t).number (given t).decimals)
 
-returns-2 : tie.Need-returns-2
+returns-2 : tie.Need-returns-else-x-le3
 unfolding spell_data
 returns-2 c =
     let t = c.before.before.before in
     let m = nat_abs (given t).number in
     let k = code_of (given t).number (given t).decimals in
-    c.five-digits2.ensures ∙ ap₂ (λ (m k : ℕ). five_digits (m % 10000) (k % 10)) (magnitude-is t) (code-is t)
+    c.five_digits-else-x-le3.ensures ∙ ap₂ (λ (m k : ℕ). five_digits (m % 10000) (k % 10)) (magnitude-is t) (code-is t)
     ∙ one_of_code_written (m % 10000) k ∙ four_written m k
 
-pub write-data-spec : {M : Type 1} → statement M
-write-data-spec = tie.close (tie.spec
+pub write_data_spec : {M : Type 1} → statement M
+write_data_spec = tie.close (tie.spec
     (λ c κs. search rules) (λ c κs. search rules) (λ c κs. search rules) five-digits-requires (λ c κs. search rules) returns returns-2)

@@ -22,10 +22,10 @@ module _ (s : tie.Start) (xs : List ℕ) where
   placed-front : {c : Call} → xs ≡ travelling front → c ≡ place_call xs s.args.at s.args.out.now → (s.args.at + length xs ≡ s.args.at + length front) × (c.buffer ≡ placed (travelling front) s.args.at s.args.out.now)
   placed-front e p =
       let n : length xs ≡ length front = ap length e ∙ travelling_length front in
-      let room : s.args.at + length xs ≤ length s.args.out.now = subst (λ (k : ℕ). s.args.at + k ≤ length s.args.out.now) (sym n) s.pre in
+      let room : s.args.at + length xs ≤ length s.args.out.now = subst (λ (k : ℕ). s.args.at + k ≤ length s.args.out.now) (sym n) s.requires in
       (ap (λ (k : ℕ). s.args.at + k) n, placed_is xs s.args.at s.args.out.now room p ∙ ap (λ (l : List ℕ). placed l s.args.at s.args.out.now) e)
 
-returns : tie.Need-returns
+returns : tie.Need-returns-then-address-le9
 unfolding travelling
 returns c =
     let p = c.before.before in
@@ -33,9 +33,9 @@ returns c =
     let i = w.before.before in
     let s = i.before.before.before in
     let a = s.args in
-    placed-front s _ (rw (i.before.with-parity.ensures, i.with-parity2.ensures, w.with-parity3.ensures) (sym (ap travelling (front_one a.letter a.address a.identifier w.before.if1.true)))) p.place.ensures
+    placed-front s _ (rw (i.before.with_parity-l.ensures, i.with_parity-i.ensures, w.with_parity-d.ensures) (sym (ap travelling (front_one a.letter a.address a.identifier w.before.if-address-le9.true)))) p.place.ensures
 
-returns-2 : tie.Need-returns-2
+returns-2 : tie.Need-returns
 unfolding travelling
 returns-2 c =
     let p = c.before.before in
@@ -44,10 +44,10 @@ returns-2 c =
     let i = t.before.before in
     let s = i.before.before.before in
     let a = s.args in
-    placed-front s _ (rw (i.before.with-parity.ensures, i.with-parity2.ensures, t.with-parity4.ensures, u.with-parity5.ensures) (sym (ap travelling (front_two a.letter a.address a.identifier t.before.if1.false)))) p.place2.ensures
+    placed-front s _ (rw (i.before.with_parity-l.ensures, i.with_parity-i.ensures, t.with_parity-t.ensures, u.with_parity-u.ensures) (sym (ap travelling (front_two a.letter a.address a.identifier t.before.if-address-le9.false)))) p.place-2.ensures
 
-pub place-front-spec : {M : Type 1} → statement M
-place-front-spec = tie.close (tie.spec
+pub place_front_spec : {M : Type 1} → statement M
+place_front_spec = tie.close (tie.spec
     (λ c κs. search rules) (λ c κs. search rules) (λ c. search rules) (λ c κs. search rules) (λ c. search rules) (λ c κs. search rules)
     (λ c. search rules) (λ c. search rules) returns (λ c. search rules) (λ c κs. search rules) (λ c. search rules) (λ c κs. search rules)
     (λ c. search rules) (λ c κs. search rules) (λ c. search rules) (λ c. search rules) returns-2)

@@ -14,20 +14,20 @@ use Rattle.reply.proofs.read.Statement.{statement}
 use Rattle.reply.proofs.read.Tie as tie
 
 -- the code's test is the definition's
-was : (c : tie.After-is-spelling) → is_reply c.before.before.before.before.args.bytes.now ≡ (c.before.is-answer.result && c.is-spelling.result)
+was : (c : tie.After-is_spelling) → is_reply c.before.before.before.before.args.bytes.now ≡ (c.before.is_answer.result && c.is_spelling.result)
 unfolding is_reply
 was c =
     let g = c.before.before in
     let bs = g.before.before.args.bytes.now in
-    sym (ap₂ ◌&&◌ (c.before.is-answer.ensures ∙ ap is_answer g.guess.ensures) (c.is-spelling.ensures ∙ ap (λ (a : Answer). same eqb (travelling (spell_answer a)) bs) g.guess.ensures))
+    sym (ap₂ ◌&&◌ (c.before.is_answer.ensures ∙ ap is_answer g.guess-answer.ensures) (c.is_spelling.ensures ∙ ap (λ (a : Answer). same eqb (travelling (spell_answer a)) bs) g.guess-answer.ensures))
 
-returns : tie.Need-returns
+returns : tie.Need-returns-then-is_answer-is_spelling
 returns c =
     let s = c.before in
-    ap gave s.before.before.guess.ensures ∙ sym (read_reply _ (was s ∙ c.if1.true))
+    ap gave s.before.before.guess-answer.ensures ∙ sym (read_reply _ (was s ∙ c.if-is_answer-is_spelling.true))
 
-returns-2 : tie.Need-returns-2
-returns-2 c = sym (read_no_reply _ (was c.before ∙ c.if1.false))
+returns-2 : tie.Need-returns-else-is_answer-is_spelling
+returns-2 c = sym (read_no_reply _ (was c.before ∙ c.if-is_answer-is_spelling.false))
 
 pub read_spec : {M : Type 1} → statement M
 read_spec = tie.close (tie.spec (λ c κs. search rules) (λ c κs. search rules) (λ c κs. search rules) returns returns-2)

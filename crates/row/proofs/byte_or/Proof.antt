@@ -9,23 +9,23 @@ use borrow.Author.Rules.{rules}
 use Rattle.row.proofs.byte_or.Statement.{statement}
 use Rattle.row.proofs.byte_or.Tie as tie
 
-was : (c : tie.After-is-byte) → is_byte c.before.args.x ≡ c.is-byte.result
-was c = ap is_byte (sym (rd-is c.before.ranges.x)) ∙ sym c.is-byte.ensures
+was : (c : tie.After-is_byte) → is_byte c.before.args.x ≡ c.is_byte.result
+was c = ap is_byte (sym (rd-is c.before.ranges.x)) ∙ sym c.is_byte.ensures
 
-cast-result : tie.Need-overflow-cast-result
+cast-result : tie.Need-overflow_cast-result
 unfolding is_byte
 cast-result c =
     let s = c.before.before in
-    let r = range-cast (pos 0) s.args.x (pos 255) refl (was c.before ∙ c.if1.true) s.ranges.x in
+    let r = range-cast (pos 0) s.args.x (pos 255) refl (was c.before ∙ c.if-is_byte.true) s.ranges.x in
     (r.0, record { fits = omega (arith, r.1) })
 
-returns : tie.Need-returns
+returns : tie.Need-returns-then-is_byte
 unfolding byte_or
-returns c = ap nat_abs (rd-is c.before.before.ranges.x) ∙ sym (rw (was c.before ∙ c.if1.true))
+returns c = ap nat_abs (rd-is c.before.before.ranges.x) ∙ sym (rw (was c.before ∙ c.if-is_byte.true))
 
-returns-2 : tie.Need-returns-2
+returns-2 : tie.Need-returns-else-is_byte
 unfolding byte_or
-returns-2 c = sym (rw (was c.before ∙ c.if1.false))
+returns-2 c = sym (rw (was c.before ∙ c.if-is_byte.false))
 
-pub byte-or-spec : {M : Type 1} → statement M
-byte-or-spec = tie.close (tie.spec (λ c κs. search rules) cast-result returns returns-2)
+pub byte_or_spec : {M : Type 1} → statement M
+byte_or_spec = tie.close (tie.spec (λ c κs. search rules) cast-result returns returns-2)

@@ -11,24 +11,24 @@ use Rattle.sheet.proofs.lookup.Statement.{statement}
 use Rattle.sheet.proofs.lookup.Tie as tie
 
 -- what the test tells of the two sheets
-was : (c : tie.After-sound-sheet2) → (sound_sheet c.before.before.args.bench.now && sound_sheet c.before.before.args.maker.now) ≡ (c.before.sound-sheet.result && c.sound-sheet2.result)
-was c = simp (c.before.sound-sheet.ensures, c.sound-sheet2.ensures)
+was : (c : tie.After-sound_sheet-2) → (sound_sheet c.before.before.args.bench.now && sound_sheet c.before.before.args.maker.now) ≡ (c.before.sound_sheet.result-1 && c.sound_sheet-2.result-1)
+was c = simp (c.before.sound_sheet.ensures, c.sound_sheet-2.ensures)
 
-returns : tie.Need-returns
+returns : tie.Need-returns-then-sound_sheet
 unfolding shown shown_lies
 returns c =
-    let e = was c.before.before ∙ c.before.if1.true in
-    (rw e c.find-row.ensures.0, rw e c.find-row.ensures.1)
+    let e = was c.before.before ∙ c.before.if-sound_sheet.true in
+    (rw e c.find_row.ensures.0, rw e c.find_row.ensures.1)
 
-returns-2 : tie.Need-returns-2
+returns-2 : tie.Need-returns
 unfolding shown shown_lies
 returns-2 c =
-    let e = was c.before.before ∙ c.before.if1.false in
+    let e = was c.before.before ∙ c.before.if-sound_sheet.false in
     let n = length c.before.before.before.before.args.maker.now in
     let none : n - n ≡ 0 = omega arith in
     (rw (e, none), rw e)
 
-pub lookup-spec : {M : Type 1} → statement M
-lookup-spec = tie.close (tie.spec
+pub lookup_spec : {M : Type 1} → statement M
+lookup_spec = tie.close (tie.spec
     (λ c κs. search rules) (λ c κs. search rules) (λ c κs. search rules) returns (λ c. search rules) (λ c. search rules)
     (λ c. search rules) (λ c. search rules) returns-2)

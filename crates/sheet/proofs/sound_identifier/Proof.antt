@@ -32,22 +32,22 @@ outside (pos n) e =
 outside (negsuc n) e = unfold sound_identifier in refl
 
 -- what the test tells of the number
-was : (c : tie.After-in-range) → in_range (pos 0) c.before.args.x (pos 127) ≡ c.in-range.result
-was c = ap (λ (z : ℤ). in_range (pos 0) z (pos 127)) (sym (rd-is c.before.ranges.x)) ∙ sym c.in-range.ensures
+was : (c : tie.After-in_range) → in_range (pos 0) c.before.args.x (pos 127) ≡ c.in_range.result
+was c = ap (λ (z : ℤ). in_range (pos 0) z (pos 127)) (sym (rd-is c.before.ranges.x)) ∙ sym c.in_range.ensures
 
-cast-c : tie.Need-overflow-cast-c
+cast-c : tie.Need-overflow_cast-c
 cast-c c =
     let s = c.before.before in
-    let r = range-cast (pos 0) s.args.x (pos 127) refl (was c.before ∙ c.if1.true) s.ranges.x in
+    let r = range-cast (pos 0) s.args.x (pos 127) refl (was c.before ∙ c.if-in_range.true) s.ranges.x in
     (r.0, record { fits = omega (arith, r.1) })
 
-returns : tie.Need-returns
+returns : tie.Need-returns-then-in_range
 returns c =
     let s = c.before.before.before in
-    simp (c.is-identifier.ensures, rd-is s.ranges.x) (in-range s.args.x (was c.before.before ∙ c.before.if1.true))
+    simp (c.is_identifier.ensures, rd-is s.ranges.x) (in-range s.args.x (was c.before.before ∙ c.before.if-in_range.true))
 
-returns-2 : tie.Need-returns-2
-returns-2 c = outside c.before.before.args.x (was c.before ∙ c.if1.false)
+returns-2 : tie.Need-returns-else-in_range
+returns-2 c = outside c.before.before.args.x (was c.before ∙ c.if-in_range.false)
 
-pub sound-identifier-spec : {M : Type 1} → statement M
-sound-identifier-spec = tie.close (tie.spec (λ c κs. search rules) cast-c (λ c κs. search rules) returns returns-2)
+pub sound_identifier_spec : {M : Type 1} → statement M
+sound_identifier_spec = tie.close (tie.spec (λ c κs. search rules) cast-c (λ c κs. search rules) returns returns-2)

@@ -18,97 +18,97 @@ use Rattle.sheet.proofs.Rows.{sound_at, rows_more, rows_bad, rows_done, sheet_lo
 use Rattle.sheet.proofs.sound_sheet.Statement.{statement}
 use Rattle.sheet.proofs.sound_sheet.Tie as tie
 
-abbrev invariant-loop : tie.invariant-loop
+abbrev invariant-loop : tie.invariant-loop-i
 invariant-loop sheet last₀ i₀ last i =
     (i ≤ length sheet) × (length sheet ≤ 384) × (sound_rows (pos 0) (rows sheet) ≡ sound_rows (to_z w32 last) (rows (drop i sheet)))
 
-abbrev decreases-loop : tie.decreases-loop
+abbrev decreases-loop : tie.decreases-loop-i
 decreases-loop sheet last₀ i₀ last i = length sheet - i
 
-returns : tie.Need-returns invariant-loop decreases-loop
+returns : tie.Need-returns-then-sheet-gt384 invariant-loop decreases-loop
 returns c = sheet_long c.before.args.sheet.now (omega arith)
 
-loop-holds : tie.Need-loop-init invariant-loop decreases-loop
+loop-holds : tie.Need-loop-i-init invariant-loop decreases-loop
 loop-holds c = (omega arith, omega arith, refl)
 
-sub-loop : tie.Need-overflow-sub-loop invariant-loop decreases-loop
+sub-loop : tie.Need-overflow_sub-sheet invariant-loop decreases-loop
 sub-loop c = omega arith
 
-mul-identifier : tie.Need-overflow-mul-identifier invariant-loop decreases-loop
+mul-identifier : tie.Need-offset_bounds-sheet-i invariant-loop decreases-loop
 mul-identifier c = omega arith
 
-shared-slice-copy-out-identifier : tie.Need-shared-slice-copy-out-identifier invariant-loop decreases-loop
+shared-slice-copy-out-identifier : tie.Need-bounds-sheet-i invariant-loop decreases-loop
 shared-slice-copy-out-identifier c = omega arith
 
-add-next : tie.Need-overflow-add-next invariant-loop decreases-loop
+add-next : tie.Need-overflow_add-next invariant-loop decreases-loop
 add-next c = omega arith
 
-mul-sound-row : tie.Need-overflow-mul-sound-row invariant-loop decreases-loop
+mul-sound-row : tie.Need-offset_bounds-sheet-i-in-loop-i invariant-loop decreases-loop
 mul-sound-row c = omega arith
 
-sub-sound-row : tie.Need-overflow-sub-sound-row invariant-loop decreases-loop
+sub-sound-row : tie.Need-slice_bounds-sound_row-count invariant-loop decreases-loop
 sub-sound-row c = omega arith
 
-part-sound-row-start : tie.Need-slice-bounds-sound-row-start invariant-loop decreases-loop
+part-sound-row-start : tie.Need-slice_bounds-sound_row-start invariant-loop decreases-loop
 part-sound-row-start c = omega arith
 
-part-sound-row-end : tie.Need-slice-bounds-sound-row-end invariant-loop decreases-loop
+part-sound-row-end : tie.Need-slice_bounds-sound_row-end invariant-loop decreases-loop
 part-sound-row-end c = omega arith
 
-module _ (c : tie.After-sound-row invariant-loop decreases-loop) where
-  abbrev turn : tie.At-loop invariant-loop decreases-loop
+module _ (c : tie.After-sound_row invariant-loop decreases-loop) where
+  abbrev turn : tie.At-loop-i invariant-loop decreases-loop
   turn = c.before.before.before.before
 
   abbrev sheet : List ℤ
   sheet = turn.before.before.args.sheet.now
 
   abbrev i : ℕ
-  i = turn.loop.i
+  i = turn.loop-i.i
 
   abbrev last : ℤ
-  last = to_z w32 turn.loop.last
+  last = to_z w32 turn.loop-i.last
 
   -- a whole row is left, the number read is its identifier, and what the test tells of it
   left : i + 6 ≤ length sheet
   left = omega arith
 
   read : to_z w32 (of_z w32 (at sheet i)) ≡ at sheet i
-  read = rd-is {z = at sheet i} (record { sfits = c.before.before.identifier.given })
+  read = rd-is {z = at sheet i} (record { sfits = c.before.before.identifier-1.given })
 
-  was : sound_at sheet i last ≡ (c.sound-row.result && lt_z last (to_z w32 (of_z w32 (at sheet i))))
+  was : sound_at sheet i last ≡ (c.sound_row.result && lt_z last (to_z w32 (of_z w32 (at sheet i))))
   was =
       let n : i + 6 - i ≡ 6 = omega arith in
-      simp (c.sound-row.ensures, read, n)
+      simp (c.sound_row.ensures, read, n)
 
-returns-2 : tie.Need-returns-2 invariant-loop decreases-loop
+returns-2 : tie.Need-returns-then-not-sound_row-last invariant-loop decreases-loop
 returns-2 c =
     let b = c.before in
-    sym (rows_bad (sheet b) (i b) (last b) (left b) (was b ∙ not-true _ c.if2.true))
-    ∙ sym (turn b).loop.invariant.2
-    ∙ sheet_short (sheet b) (turn b).loop.invariant.1
+    sym (rows_bad (sheet b) (i b) (last b) (left b) (was b ∙ not-true _ c.if-not-sound_row-last.true))
+    ∙ sym (turn b).loop-i.invariant.2
+    ∙ sheet_short (sheet b) (turn b).loop-i.invariant.1
 
-loop-less : tie.Need-loop-smaller invariant-loop decreases-loop
+loop-less : tie.Need-loop-i-smaller invariant-loop decreases-loop
 loop-less c = omega arith
 
-loop-again : tie.Need-loop-preserved invariant-loop decreases-loop
+loop-again : tie.Need-loop-i-preserved invariant-loop decreases-loop
 loop-again c =
     let b = c.before in (
       left b,
-      (turn b).loop.invariant.1,
-      (turn b).loop.invariant.2
-          ∙ rows_more (sheet b) (i b) (last b) (left b) (was b ∙ not-false _ c.if2.false)
+      (turn b).loop-i.invariant.1,
+      (turn b).loop-i.invariant.2
+          ∙ rows_more (sheet b) (i b) (last b) (left b) (was b ∙ not-false _ c.if-not-sound_row-last.false)
           ∙ ap (λ (x : ℤ). sound_rows x (rows (drop (i b + 6) (sheet b)))) (sym (read b)),
     )
 
-returns-3 : tie.Need-returns-3 invariant-loop decreases-loop
+returns-3 : tie.Need-returns invariant-loop decreases-loop
 returns-3 c =
     let l = c.before in
     let s = l.before.before.args.sheet.now in
-    rows_done s l.loop.i (to_z w32 l.loop.last) (omega arith) (omega arith)
-    ∙ sym l.loop.invariant.2
-    ∙ sheet_short s l.loop.invariant.1
+    rows_done s l.loop-i.i (to_z w32 l.loop-i.last) (omega arith) (omega arith)
+    ∙ sym l.loop-i.invariant.2
+    ∙ sheet_short s l.loop-i.invariant.1
 
-pub sound-sheet-spec : {M : Type 1} → statement M
-sound-sheet-spec = tie.close (tie.spec
+pub sound_sheet_spec : {M : Type 1} → statement M
+sound_sheet_spec = tie.close (tie.spec
     invariant-loop decreases-loop returns loop-holds sub-loop mul-identifier shared-slice-copy-out-identifier add-next mul-sound-row sub-sound-row
     part-sound-row-start part-sound-row-end (λ c κs. search rules) returns-2 loop-less loop-again returns-3)

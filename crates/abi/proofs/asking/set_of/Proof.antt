@@ -14,20 +14,20 @@ use Rattle.abi.proofs.asking.set_of.Tie as tie
 abbrev fit : tie.Start → Bool
 fit s = leb s.args.decimals 255 && leb s.args.minus-zero 1
 
-cast-decimals : tie.Need-overflow-cast-decimals
+cast-decimals : tie.Need-overflow_cast-decimals
 cast-decimals c =
     let a = c.before.args in
-    omega (arith, leb-true a.decimals 255 (and_left (leb a.decimals 255) (leb a.minus-zero 1) (not-false (fit c.before) c.if1.false)))
+    omega (arith, leb-true a.decimals 255 (and_left (leb a.decimals 255) (leb a.minus-zero 1) (not-false (fit c.before) c.if-not-decimals-minus_zero.false)))
 
-returns : tie.Need-returns
+returns : tie.Need-returns-then-not-decimals-minus_zero
 unfolding set_of
-returns c = simp (not-true (fit c.before) c.if1.true)
+returns c = simp (not-true (fit c.before) c.if-not-decimals-minus_zero.true)
 
-returns-2 : tie.Need-returns-2
+returns-2 : tie.Need-returns
 unfolding set_of
 returns-2 c =
     let s = c.before.before in
-    simp (not-false (fit s) c.before.if1.false, c.heard.ensures, rd-is s.ranges.number)
+    simp (not-false (fit s) c.before.if-not-decimals-minus_zero.false, c.heard.ensures, rd-is s.ranges.number)
 
-pub set-of-spec : {M : Type 1} → statement M
-set-of-spec = tie.close (tie.spec returns cast-decimals (λ c κs. search rules) returns-2)
+pub set_of_spec : {M : Type 1} → statement M
+set_of_spec = tie.close (tie.spec returns cast-decimals (λ c κs. search rules) returns-2)

@@ -18,15 +18,15 @@ fit s =
     leb (length a.rows.now) (length a.sheet.now) && leb (length a.initial.now) (length a.values.now) && leb (length a.set.now) (length a.setup.now)
 
 -- what it says of the three lists, where it passes
-fits : (c : tie.Else1) → fit c.before ≡ true
-fits c = not-false (fit c.before) c.if1.false
+fits : (c : tie.Else-not-rows-sheet) → fit c.before ≡ true
+fits c = not-false (fit c.before) c.if-not-rows-sheet.false
 
-returns : tie.Need-returns
+returns : tie.Need-returns-then-not-rows-sheet
 unfolding given_into
 returns c =
     let s = c.before.before in
     let a = s.args in
-    rw (not-true (fit s) c.before.if1.true, wide_ok c.minus_number.result c.minus_number.type-inv, c.minus_number.ensures)
+    rw (not-true (fit s) c.before.if-not-rows-sheet.true, wide_ok c.minus_number.result c.minus_number.type_inv, c.minus_number.ensures)
 
 copy-requires : tie.Need-copy-requires
 copy-requires c κs = let e = fits c.before in leb-true _ _ (search ands)
@@ -37,7 +37,7 @@ copy-requires-2 c κs = let e = fits c.before.before.before.before in leb-true _
 copy-requires-3 : tie.Need-copy-requires-3
 copy-requires-3 c κs = let e = fits c.before.before.before.before.before.before.before in leb-true _ _ (search ands)
 
-returns-2 : tie.Need-returns-2
+returns-2 : tie.Need-returns
 unfolding given_into
 returns-2 c =
     let k3 = c.before.before in
@@ -46,11 +46,11 @@ returns-2 c =
     let e = k1.before.before in
     rw (
       fits e,
-      wide_ok c.count-result.result c.count-result.type-inv,
-      c.count-result.ensures,
+      wide_ok c.count_result.result c.count_result.type_inv,
+      c.count_result.ensures,
       k1.copy.ensures,
-      k2.copy2.ensures,
-      k3.copy3.ensures,
+      k2.copy-2.ensures,
+      k3.copy-3.ensures,
     )
 
 pub give_spec : {M : Type 1} → statement M

@@ -12,38 +12,38 @@ use Rattle.abi.proofs.Laws.{wide_ok}
 use Rattle.abi.proofs.tracing.kav_trace.Statement.{statement}
 use Rattle.abi.proofs.tracing.kav_trace.Tie as tie
 
-abbrev start : tie.After-is-row → tie.Start
+abbrev start : tie.After-is_row → tie.Start
 start i = i.before.before.before.before.before.before
 
-returns : tie.Need-returns
+returns : tie.Need-returns-then-not-is_row
 unfolding kav_trace
 returns c =
     let f = c.minus_number in
     let i = c.before.before in
     let a = (start i).args in
-    ap (λ (z : ℤ). noted_words z a.card.now a.values.now a.out.now a.counts.now a.notes.now) (wide_ok f.result f.type-inv ∙ f.ensures)
-    ∙ sym (rw (sym i.is-row.ensures ∙ not-true _ c.before.if1.true))
+    ap (λ (z : ℤ). noted_words z a.card.now a.values.now a.out.now a.counts.now a.notes.now) (wide_ok f.result f.type_inv ∙ f.ensures)
+    ∙ sym (rw (sym i.is_row.ensures ∙ not-true _ c.before.if-not-is_row.true))
 
 -- the row is a card
-module _ (d : tie.After-card-of) where
+module _ (d : tie.After-card_of-held) where
   abbrev begin : tie.Start
   begin = start d.before.before.before
 
   is-card : is_row begin.args.card.now ≡ true
-  is-card = sym d.before.before.before.is-row.ensures ∙ not-false _ d.before.before.if1.left
+  is-card = sym d.before.before.before.is_row.ensures ∙ not-false _ d.before.before.if-not-is_row.false
 
-returns-2 : tie.Need-returns-2
+returns-2 : tie.Need-returns-then-counts-lt3
 unfolding kav_trace
 returns-2 c =
-    let f = c.without-room in
+    let f = c.without_room in
     let k = c.before in
     let h = k.before.before.before in
     let d = h.before in
     let a = (begin d).args in
-    ap (λ (z : ℤ). noted_words z a.card.now a.values.now a.out.now a.counts.now a.notes.now) (wide_ok f.result f.type-inv ∙ f.ensures ∙ ap too_short k.check.ensures)
-    ∙ rw (d.card-of.ensures, is-card d, lt-ltb _ _ h.if2.true)
+    ap (λ (z : ℤ). noted_words z a.card.now a.values.now a.out.now a.counts.now a.notes.now) (wide_ok f.result f.type_inv ∙ f.ensures ∙ ap too_short k.check.ensures)
+    ∙ rw (d.card_of-held.ensures, is-card d, lt-ltb _ _ h.if-counts-lt3.true)
 
-returns-3 : tie.Need-returns-3
+returns-3 : tie.Need-returns
 unfolding kav_trace
 returns-3 c =
     let r = c.before.before.before in
@@ -53,11 +53,11 @@ returns-3 c =
     let d = b.before in
     let a = (begin d).args in
     let v = s.trace.new.1.1.1 in
-    rw (wide_ok f.result f.type-inv)
-    (f.ensures v.0 v.1.1.0 v.1.1.1.0 ∙ ap (trace_on a.card.now a.counts.now) s.trace.ensures ∙ rw (d.card-of.ensures, is-card d, le-ltb _ _ b.if2.false))
+    rw (wide_ok f.result f.type_inv)
+    (f.ensures v.0 v.1.1.0 v.1.1.1.0 ∙ ap (trace_on a.card.now a.counts.now) s.trace.ensures ∙ rw (d.card_of-held.ensures, is-card d, le-ltb _ _ b.if-counts-lt3.false))
 
-pub kav-trace-spec : {M : Type 1} → statement M
-kav-trace-spec = tie.close (tie.spec
+pub kav_trace_spec : {M : Type 1} → statement M
+kav_trace_spec = tie.close (tie.spec
     (λ c κs. search rules) (λ c κs. search rules) (λ c. search rules) returns (λ c κs. search rules) (λ c κs. search rules)
     (λ c κs. search rules) (λ c. search rules) (λ c. search rules) (λ c. search rules) returns-2 (λ c κs. search rules)
     (λ c κs. search rules) (λ c. search rules) (λ c. search rules) (λ c. search rules) (λ c. search rules) (λ c. search rules)

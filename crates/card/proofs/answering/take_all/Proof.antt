@@ -31,21 +31,21 @@ use Rattle.card.proofs.answering.take_all.Tie as tie
 
 -- a word that is left closes the message
 abbrev Closes : List ℕ → Reached → Type 0
-Closes words r = r.at < length words → hear r.pending (get_or words r.at 0) ≡ record { pending = none; message = parse (open_of r.pending) }
+Closes words r = r.at < length words → hear r.pending-1 (get_or words r.at 0) ≡ record { pending = none; message = parse (open_of r.pending-1) }
 
-abbrev invariant-loop : tie.invariant-loop
+abbrev invariant-loop : tie.invariant-loop-halt
 invariant-loop bench maker values₀ words out₀ setup offer₀ chars₀ halt₀ places at₀ values out offer chars halt at =
     Carried (hears bench maker) (played_from (hears bench maker) out₀ words (stands_at setup offer₀ values₀ (reached_of chars₀ halt₀)) halt₀.at) out₀ words (stands_at setup offer values (reached_of chars halt)) out at halt.at
     × Closes words (reached_of chars halt)
     × (length chars ≡ 10)
     × (length values ≡ length values₀)
 
-abbrev decreases-loop : tie.decreases-loop
+abbrev decreases-loop : tie.decreases-loop-halt
 decreases-loop bench maker values₀ words out₀ setup offer₀ chars₀ halt₀ places at₀ values out offer chars halt at =
     length words - halt.at
 
 -- the first words are taken: what is played from there is what is played from the start
-module _ (t : tie.After-to-close invariant-loop decreases-loop) where
+module _ (t : tie.After-to_close-halt invariant-loop decreases-loop) where
   abbrev start : tie.Start invariant-loop decreases-loop
   start = t.before.before.before.before.before.before.before
 
@@ -68,16 +68,16 @@ module _ (t : tie.After-to-close invariant-loop decreases-loop) where
   card₀ = start.args.card
 
   abbrev first : Reached
-  first = reached_of t.to-close.last.0 t.to-close.result
+  first = reached_of t.to_close-halt.last.0 t.to_close-halt.result
 
-  is-first : first ≡ to_close card₀.pending words 0
-  is-first = came_to card₀.pending words 0 _ _ t.to-close.ensures
+  is-first : first ≡ to_close card₀.pending-1 words 0
+  is-first = came_to card₀.pending-1 words 0 _ _ t.to_close-halt.ensures
 
   abbrev takes : Instrument → ℕ → Reaction Instrument
   takes = hears bench maker
 
   abbrev stand : Instrument
-  stand = stands_at card₀.setup card₀.offer values₀ first
+  stand = stands_at card₀.setup-1 card₀.offer values₀ first
 
   abbrev all : Played Instrument
   all = played_from takes out₀ words stand first.at
@@ -87,168 +87,168 @@ module _ (t : tie.After-to-close invariant-loop decreases-loop) where
 
   -- nothing more is taken
   stops : (here : Instrument) (out : List ℕ) (at i : ℕ) → Carried takes all out₀ words here out at i → playing takes here (length out₀ - at) (drop i words) ≡ stopped here
-      → (r : Ran) → r ≡ record { card = here.card; answer = Took i at } → run_after r here.values out ≡ ended (play bench maker card₀ values₀ (length out₀) words) out₀
+      → (r : Ran) → r ≡ record { card = here.card; answer = Took i at } → run_after r here.values-1 out ≡ ended (play bench maker card₀ values₀ (length out₀) words) out₀
   stops here out at i k e r q =
-      ap (λ (x : Ran). run_after x here.values out) q
+      ap (λ (x : Ran). run_after x here.values-1 out) q
       ∙ ended_here bench maker all out₀ words here out at i k e
       ∙ ap (λ (x : Played Instrument). ended x out₀) (sym (first_taken bench maker card₀ values₀ words out₀ first is-first))
 
-returns : tie.Need-returns invariant-loop decreases-loop
+returns : tie.Need-returns-then-words-halt invariant-loop decreases-loop
 returns c =
     let t = c.before.before.before in
     stops t (stand t) (out₀ t) 0 (first t).at (begun t)
-    (ends (takes t) (all t) (out₀ t) (words t) (stand t) (out₀ t) 0 (first t).at (begun t) c.before.if1.true)
+    (ends (takes t) (all t) (out₀ t) (words t) (stand t) (out₀ t) 0 (first t).at (begun t) c.before.if-words-halt.true)
     c.so_far.result c.so_far.ensures
 
-ten-places : (s : tie.Start invariant-loop decreases-loop) → length s.args.card.pending.chars ≡ 10
+ten-places : (s : tie.Start invariant-loop decreases-loop) → length s.args.card.pending-1.chars-1 ≡ 10
 ten-places s = search rules
 
-loop-holds : tie.Need-loop-init invariant-loop decreases-loop
+loop-holds : tie.Need-loop-halt-init invariant-loop decreases-loop
 loop-holds c =
     let t = c.before.before.before.before in
-    let p = (card₀ t).pending in (
+    let p = (card₀ t).pending-1 in (
       begun t,
       subst (Closes (words t)) (sym (is-first t)) (reached_hears (words t) p 0),
-      came_long p (words t) 0 _ _ t.to-close.ensures (ten-places (start t)),
+      came_long p (words t) 0 _ _ t.to_close-halt.ensures (ten-places (start t)),
       refl,
     )
 
 -- where the loop stands
-module _ (l : tie.At-loop invariant-loop decreases-loop) where
-  abbrev begin : tie.After-to-close invariant-loop decreases-loop
+module _ (l : tie.At-loop-halt invariant-loop decreases-loop) where
+  abbrev begin : tie.After-to_close-halt invariant-loop decreases-loop
   begin = l.before.before.before.before.before
 
   abbrev reached : Reached
-  reached = reached_of l.loop.chars l.loop.halt
+  reached = reached_of l.loop-halt.chars l.loop-halt.halt
 
   abbrev here : Instrument
-  here = stands_at (card₀ begin).setup l.loop.offer l.loop.values reached
+  here = stands_at (card₀ begin).setup-1 l.loop-halt.offer l.loop-halt.values reached
 
-slice-aggregate-closed : tie.Need-slice-aggregate-closed invariant-loop decreases-loop
-slice-aggregate-closed c = sym c.before.before.before.loop.invariant.2
+slice-aggregate-closed : tie.Need-slice_bounds-closed-end invariant-loop decreases-loop
+slice-aggregate-closed c = sym c.before.before.before.loop-halt.invariant.2
 
 -- what was closed
-module _ (i : tie.After-is-scan invariant-loop decreases-loop) where
-  abbrev stands : tie.At-loop invariant-loop decreases-loop
+module _ (i : tie.After-is_scan invariant-loop decreases-loop) where
+  abbrev stands : tie.At-loop-halt invariant-loop decreases-loop
   stands = i.before.before.before.before.before
 
   abbrev parsed : Parsed
-  parsed = i.before.closed.result
+  parsed = i.before.closed-parsed.result
 
 -- the effect of the closed message: the word's turn as the code has it
-module _ (e : tie.Joined3 invariant-loop decreases-loop) where
-  abbrev at-loop : tie.At-loop invariant-loop decreases-loop
+module _ (e : tie.Joined-is_scan invariant-loop decreases-loop) where
+  abbrev at-loop : tie.At-loop-halt invariant-loop decreases-loop
   at-loop = stands e.before
 
   abbrev leads : Reaction Instrument
-  leads = carried_out (here at-loop) none e.if3.effect
+  leads = carried_out (here at-loop) none e.if-is_scan.effect
 
-  in_words : at-loop.loop.halt.at < length (words (begin at-loop))
-  in_words = e.before.before.before.before.if2.taken
+  in_words : at-loop.loop-halt.halt.at < length (words (begin at-loop))
+  in_words = e.before.before.before.before.loop-halt-test.true
 
-  is-effect : e.if3.effect ≡ effects (bench (begin at-loop)) (maker (begin at-loop)) (here at-loop).card at-loop.loop.values (parsed e.before)
+  is-effect : e.if-is_scan.effect ≡ effects (bench (begin at-loop)) (maker (begin at-loop)) (here at-loop).card at-loop.loop-halt.values (parsed e.before)
   is-effect =
       let t = begin at-loop in
       let i = here at-loop in
-      let s = (start t).pre in
-      let x = at-loop.before.before.index.ensures in
+      let s = (start t).requires in
+      let x = at-loop.before.before.index-index.ensures in
       ⊎_elim
-      (λ w. w.3 ∙ w.2.ensures ∙ scan_leads (bench t) (maker t) i.card.setup i.card.offer i.values _ s.0 s.1 x _ (sym e.before.is-scan.ensures ∙ w.0.taken))
-      (λ w. w.3 ∙ w.2.ensures ∙ row_leads (bench t) (maker t) i.card.setup i.card.offer i.values _ s.0 s.1 x _ (sym e.before.is-scan.ensures ∙ w.0.left))
-      e.if3.came
+      (λ w. w.3 ∙ w.2.ensures ∙ scan_leads (bench t) (maker t) i.card.setup-1 i.card.offer i.values-1 _ s.0 s.1 x _ (sym e.before.is_scan.ensures ∙ w.0.taken))
+      (λ w. w.3 ∙ w.2.ensures ∙ row_leads (bench t) (maker t) i.card.setup-1 i.card.offer i.values-1 _ s.0 s.1 x _ (sym e.before.is_scan.ensures ∙ w.0.left))
+      e.if-is_scan.came
 
-  is-turn : leads ≡ takes (begin at-loop) (here at-loop) (get_or (words (begin at-loop)) at-loop.loop.halt.at 0)
+  is-turn : leads ≡ takes (begin at-loop) (here at-loop) (get_or (words (begin at-loop)) at-loop.loop-halt.halt.at 0)
   unfolding open_of
   is-turn =
       let t = begin at-loop in
-      closed-turns (bench t) (maker t) (here at-loop) _ e.if3.effect (parsed e.before) is-effect e.before.before.closed.ensures (at-loop.loop.inv.1 in_words)
+      closed-turns (bench t) (maker t) (here at-loop) _ e.if-is_scan.effect (parsed e.before) is-effect e.before.before.closed-parsed.ensures (at-loop.loop-halt.invariant.1 in_words)
 
 -- what it has come to
 module _ (s : tie.After-settle invariant-loop decreases-loop) where
-  abbrev effect : tie.Joined3 invariant-loop decreases-loop
+  abbrev effect : tie.Joined-is_scan invariant-loop decreases-loop
   effect = s.before.before.before
 
-  abbrev loop : tie.At-loop invariant-loop decreases-loop
+  abbrev loop : tie.At-loop-halt invariant-loop decreases-loop
   loop = at-loop effect
 
   abbrev came : Settled
   came = record { outcome = outcome_of s.settle.result; values = s.settle.last.1.0; buffer = s.settle.last.1.1.0 }
 
 -- there is no room for the reply
-module _ (c : tie.After-enum-told invariant-loop decreases-loop) where
+module _ (c : tie.In_default invariant-loop decreases-loop) where
   abbrev unsettled : tie.After-settle invariant-loop decreases-loop
   unsettled = c.before.before.before.before.before
 
-  undone : Undone (effect unsettled).if3.effect (loop unsettled).loop.values (loop unsettled).loop.at (loop unsettled).loop.out (came unsettled)
-  undone = refused_undone _ _ _ _ (came unsettled) unsettled.settle.ensures (number_of c.enum_told.given.0.0) (ap outcome_of c.enum_told.given.1)
+  undone : Undone (effect unsettled).if-is_scan.effect (loop unsettled).loop-halt.values (loop unsettled).loop-halt.at (loop unsettled).loop-halt.out (came unsettled)
+  undone = refused_undone _ _ _ _ (came unsettled) unsettled.settle.ensures (number_of c.enum_told-1.given.0.0) (ap outcome_of c.enum_told-1.given.1)
 
-same_length : tie.Need-same-length invariant-loop decreases-loop
-same_length c = ap length (undone c.before).kept ∙ (loop (unsettled c.before)).loop.inv.3
+same_length : tie.Need-shape_of-values-in_default invariant-loop decreases-loop
+same_length c = ap length (undone c.before).kept ∙ (loop (unsettled c.before)).loop-halt.invariant.3
 
-same-length-2 : tie.Need-same-length-2 invariant-loop decreases-loop
-same-length-2 c = ap length (undone c.before).unsaid.leaves ∙ (loop (unsettled c.before)).loop.inv.0.filling.long
+same-length-2 : tie.Need-shape_of-out-in_default invariant-loop decreases-loop
+same-length-2 c = ap length (undone c.before).unsaid.leaves ∙ (loop (unsettled c.before)).loop-halt.invariant.0.filling.long
 
-returns-2 : tie.Need-returns-2 invariant-loop decreases-loop
+returns-2 : tie.Need-returns-in_default invariant-loop decreases-loop
 returns-2 c =
     let u = undone c.before in
     let e = effect (unsettled c.before) in
     let l = at-loop e in
     let t = begin l in
-    ap₂ (run_after c.so-far2.result) u.kept u.unsaid.leaves
-    ∙ stops t (here l) l.loop.out l.loop.at l.loop.halt.at l.loop.inv.0
-    (undone_stops (bench t) (maker t) (all t) (out₀ t) (words t) (here l) l.loop.out l.loop.at l.loop.halt.at l.loop.inv.0 e.if3.effect (is-turn e) (in_words e) _ u)
-    c.so-far2.result c.so-far2.ensures
+    ap₂ (run_after c.so_far-in_default.result) u.kept u.unsaid.leaves
+    ∙ stops t (here l) l.loop-halt.out l.loop-halt.at l.loop-halt.halt.at l.loop-halt.invariant.0
+    (undone_stops (bench t) (maker t) (all t) (out₀ t) (words t) (here l) l.loop-halt.out l.loop-halt.at l.loop-halt.halt.at l.loop-halt.invariant.0 e.if-is_scan.effect (is-turn e) (in_words e) _ u)
+    c.so_far-in_default.result c.so_far-in_default.ensures
 
 -- the message is answered
-module _ (k : tie.After-known-told invariant-loop decreases-loop) where
+module _ (k : tie.In-Wrote invariant-loop decreases-loop) where
   abbrev settled : tie.After-settle invariant-loop decreases-loop
   settled = k.before.before.before.before.before.before
 
   abbrev n : ℕ
-  n = k.before.n.given.0.0
+  n = k.before.n-1.given.0.0
 
-  done : Done (effect settled).if3.effect (loop settled).loop.values (loop settled).loop.at (loop settled).loop.out (came settled) n
-  done = gave_done _ _ _ _ (came settled) settled.settle.ensures n (ap outcome_of k.before.n.given.1)
+  done : Done (effect settled).if-is_scan.effect (loop settled).loop-halt.values (loop settled).loop-halt.at (loop settled).loop-halt.out (came settled) n
+  done = gave_done _ _ _ _ (came settled) settled.settle.ensures n (ap outcome_of k.before.n-1.given.1)
 
-  room : (loop settled).loop.at + n ≤ length (loop settled).loop.out
+  room : (loop settled).loop-halt.at + n ≤ length (loop settled).loop-halt.out
   room = omega (arith, done.said.count, done.said.room)
 
-add-to-close : tie.Need-overflow-add-to-close invariant-loop decreases-loop
+add-to-close : tie.Need-overflow_add-halt invariant-loop decreases-loop
 add-to-close c =
     let e = effect (settled c.before.before) in
     omega (arith, in_words e, (start (begin (at-loop e))).good.1.1.1.1.0)
 
 -- the words behind it are taken up to the next that closes a message
-module _ (c : tie.After-to-close2 invariant-loop decreases-loop) where
-  abbrev answered : tie.After-known-told invariant-loop decreases-loop
+module _ (c : tie.After-to_close-halt-in-loop-halt invariant-loop decreases-loop) where
+  abbrev answered : tie.In-Wrote invariant-loop decreases-loop
   answered = c.before.before.before
 
-  abbrev closed : tie.Joined3 invariant-loop decreases-loop
+  abbrev closed : tie.Joined-is_scan invariant-loop decreases-loop
   closed = effect (settled answered)
 
   abbrev text : List ℕ
   text = words (begin (at-loop closed))
 
   abbrev from : ℕ
-  from = (at-loop closed).loop.halt.at + 1
+  from = (at-loop closed).loop-halt.halt.at + 1
 
-  came_from : Came none text from c.to-close2.new.0 c.to-close2.result
+  came_from : Came none text from c.to_close-halt-in-loop-halt.new.0 c.to_close-halt-in-loop-halt.result
   unfolding none
-  came_from = c.to-close2.ensures
+  came_from = c.to_close-halt-in-loop-halt.ensures
 
-  behind : from ≤ c.to-close2.result.at
+  behind : from ≤ c.to_close-halt-in-loop-halt.result.at
   behind = (came_in none text from _ _ came_from (omega (arith, in_words closed))).0
 
-add_at : tie.Need-overflow-add-at invariant-loop decreases-loop
+add_at : tie.Need-overflow_add-at invariant-loop decreases-loop
 add_at c =
     let k = answered c in
     let l = loop (settled k) in
-    omega (arith, room k, l.loop.inv.0.filling.long, (start (begin l)).good.1.1.1.1.1.0)
+    omega (arith, room k, l.loop-halt.invariant.0.filling.long, (start (begin l)).good.1.1.1.1.1.0)
 
-loop-less : tie.Need-loop-smaller invariant-loop decreases-loop
+loop-less : tie.Need-loop-halt-smaller invariant-loop decreases-loop
 loop-less c = omega (arith, in_words (closed c), behind c)
 
-loop-again : tie.Need-loop-preserved invariant-loop decreases-loop
+loop-again : tie.Need-loop-halt-preserved invariant-loop decreases-loop
 unfolding none
 loop-again c =
     let k = answered c in
@@ -256,25 +256,25 @@ loop-again c =
     let l = at-loop e in
     let t = begin l in
     let next = came_to none (text c) (from c) _ _ (came_from c) in (
-      done-goes-on (bench t) (maker t) (all t) (out₀ t) (words t) (here l) l.loop.out l.loop.at l.loop.halt.at l.loop.inv.0 e.if3.effect (is-turn e) (in_words e) (came (settled k)) (n k) (done k) _ next,
+      done-goes-on (bench t) (maker t) (all t) (out₀ t) (words t) (here l) l.loop-halt.out l.loop-halt.at l.loop-halt.halt.at l.loop-halt.invariant.0 e.if-is_scan.effect (is-turn e) (in_words e) (came (settled k)) (n k) (done k) _ next,
       subst (Closes (words t)) (sym next) (reached_hears (words t) none (from c)),
       came_long none (text c) (from c) _ _ (came_from c) refl,
-      (settled k).settle.kept.1.0 ∙ l.loop.inv.3,
+      (settled k).settle.kept.1.0 ∙ l.loop-halt.invariant.3,
     )
 
-same-length-3 : tie.Need-same-length-3 invariant-loop decreases-loop
-same-length-3 c = c.before.before.before.loop.invariant.3
+same-length-3 : tie.Need-shape_of-values invariant-loop decreases-loop
+same-length-3 c = c.before.before.before.loop-halt.invariant.3
 
-same-length-4 : tie.Need-same-length-4 invariant-loop decreases-loop
-same-length-4 c = c.before.before.before.loop.invariant.0.filling.long
+same-length-4 : tie.Need-shape_of-out invariant-loop decreases-loop
+same-length-4 c = c.before.before.before.loop-halt.invariant.0.filling.long
 
-returns-3 : tie.Need-returns-3 invariant-loop decreases-loop
+returns-3 : tie.Need-returns invariant-loop decreases-loop
 returns-3 c =
     let l = c.before.before.before in
     let t = begin l in
-    stops t (here l) l.loop.out l.loop.at l.loop.halt.at l.loop.invariant.0
-    (ends (takes t) (all t) (out₀ t) (words t) (here l) l.loop.out l.loop.at l.loop.halt.at l.loop.invariant.0 c.before.if2.false)
-    c.so-far3.result c.so-far3.ensures
+    stops t (here l) l.loop-halt.out l.loop-halt.at l.loop-halt.halt.at l.loop-halt.invariant.0
+    (ends (takes t) (all t) (out₀ t) (words t) (here l) l.loop-halt.out l.loop-halt.at l.loop-halt.halt.at l.loop-halt.invariant.0 c.before.loop-halt-test.false)
+    c.so_far-2.result c.so_far-2.ensures
 
 pub take_all_spec : {M : Type 1} → statement M
 take_all_spec = tie.close (tie.spec

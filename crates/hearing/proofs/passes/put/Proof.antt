@@ -9,9 +9,9 @@ use Rattle.refusal.specs.Buffer.{placed}
 use Rattle.refusal.proofs.Buffers.{placed_nothing}
 use Rattle.wire.specs.Word.{travelling}
 use Rattle.wire.proofs.Lines.{line_part, line_fits}
-use Rattle.message.specs.declared.Message.{Message}
-use Rattle.message.specs.Spell.{spell}
-use Rattle.message.proofs.Spelling.{spell_length}
+use Rattle.message-1.specs.declared.Message.{Message}
+use Rattle.message-1.specs.Spell.{spell}
+use Rattle.message-1.proofs.Spelling.{spell_length}
 use Rattle.hearing.specs.Inner.{worth}
 use borrow.Author.Rules.{rules}
 use Rattle.hearing.proofs.passes.put.Statement.{statement}
@@ -27,58 +27,58 @@ module _ (s : tie.Start) (xs : List ℕ) (e : xs ≡ worth s.args.message) where
   copied n out p = subst (λ (l : List ℕ). (n ≡ s.args.at + length l) × (out ≡ placed l s.args.at s.args.out.now)) e p
 
 -- a message is heard
-module _ (k : tie.After-known-told) where
+module _ (k : tie.In-Heard) where
   abbrev start : tie.Start
   start = k.before.before.before.before
 
   abbrev said : Message
-  said = k.before.message.given.0.0
+  said = k.before.message-1.given.0.0
 
   its-words : travelling (spell said) ≡ worth start.args.message
   unfolding worth
-  its-words = ap worth (sym k.before.message.given.1)
+  its-words = ap worth (sym k.before.message-1.given.1)
 
 -- with data: the line holds no more than its array
-module _ (d : tie.After-spell) where
-  abbrev heard : tie.After-known-told
+module _ (d : tie.After-spell-line) where
+  abbrev heard : tie.In-Heard
   heard = d.before.before.before.before
 
-  fit : d.spell.result.len ≤ length d.spell.result.bytes
-  fit = line_fits d.spell.result (spell (said heard)) d.spell.ensures (spell_length (said heard))
+  fit : d.spell-line.result.len ≤ length d.spell-line.result.bytes
+  fit = line_fits d.spell-line.result (spell (said heard)) d.spell-line.ensures (spell_length (said heard))
 
-  part : take d.spell.result.len d.spell.result.bytes ≡ worth (start heard).args.message
-  part = line_part d.spell.result (spell (said heard)) d.spell.ensures ∙ its-words heard
+  part : take d.spell-line.result.len d.spell-line.result.bytes ≡ worth (start heard).args.message
+  part = line_part d.spell-line.result (spell (said heard)) d.spell-line.ensures ∙ its-words heard
 
-returns : tie.Need-returns
+returns : tie.Need-returns-in_default
 unfolding worth
 returns c =
     let a = c.before.before.before.args in
-    let n : worth a.message ≡ [] = ap worth c.enum_told.given.1 in
+    let n : worth a.message-1 ≡ [] = ap worth c.enum_told-1.given.1 in
     (omega (arith, ap length n), sym (ap (λ (l : List ℕ). placed l a.at a.out.now) n ∙ placed_nothing a.at a.out.now))
 
-put-sign-requires : tie.Need-put-sign-requires
+put-sign-requires : tie.Need-put_sign-requires
 put-sign-requires c κs =
     let a = c.before.before in
     let k = a.before.before in
     let h = k.before in
-    (sym k.kind-of.ensures ∙ a.c.given.1, room (start h) (travelling (spell (said h))) (its-words h))
+    (sym k.kind_of.ensures ∙ a.c-1.given.1, room (start h) (travelling (spell (said h))) (its-words h))
 
-array-share-prefix-bytes : tie.Need-array-share-prefix-bytes
+array-share-prefix-bytes : tie.Need-slice_bounds-bytes-end
 array-share-prefix-bytes c = fit c.before
 
-slice-aggregate-copy : tie.Need-slice-aggregate-copy
+slice-aggregate-copy : tie.Need-slice_bounds-copy-end
 slice-aggregate-copy c = sym (length-take-le _ _ (fit c.before.before))
 
 copy-requires : tie.Need-copy-requires
 copy-requires c κs = let d = c.before.before.before in room (start (heard d)) _ (part d)
 
-returns-2 : tie.Need-returns-2
+returns-2 : tie.Need-returns-in-Sign
 returns-2 c =
     let s = c.before.before in
     let h = s.before.before.before.before.before.before in
-    copied (start h) (travelling (spell (said h))) (its-words h) _ _ s.put-sign.ensures
+    copied (start h) (travelling (spell (said h))) (its-words h) _ _ s.put_sign.ensures
 
-returns-3 : tie.Need-returns-3
+returns-3 : tie.Need-returns-in-Data
 returns-3 c =
     let k = c.before.before in
     let d = k.before.before.before.before in

@@ -14,59 +14,59 @@ use borrow.Author.Rules.{rules}
 use Rattle.message.proofs.recogniser.position.Statement.{statement}
 use Rattle.message.proofs.recogniser.position.Tie as tie
 
-abbrev invariant-loop : tie.invariant-loop
+abbrev invariant-loop : tie.invariant-loop-at
 invariant-loop characters prefix₀ at₀ prefix at = at + matched prefix (drop at characters) ≡ position characters
 
-abbrev decreases-loop : tie.decreases-loop
+abbrev decreases-loop : tie.decreases-loop-at
 decreases-loop characters prefix₀ at₀ prefix at = length characters - at
 
-loop-holds : tie.Need-loop-init invariant-loop decreases-loop
+loop-holds : tie.Need-loop-at-init invariant-loop decreases-loop
 unfolding position
 loop-holds c = omega arith
 
-shared-slice-read-extend : tie.Need-shared-slice-read-extend invariant-loop decreases-loop
+shared-slice-read-extend : tie.Need-bounds-characters-at invariant-loop decreases-loop
 shared-slice-read-extend c = omega arith
 
-add_at : tie.Need-overflow-add-at invariant-loop decreases-loop
+add_at : tie.Need-overflow_add-at invariant-loop decreases-loop
 add_at c = omega arith
 
-loop-less : tie.Need-loop-smaller invariant-loop decreases-loop
+loop-less : tie.Need-loop-at-smaller invariant-loop decreases-loop
 loop-less c = omega arith
 
 -- in a turn, the state behind one character more was tested
-module _ (w : tie.After-is-wrong invariant-loop decreases-loop) where
-  abbrev l : tie.At-loop invariant-loop decreases-loop
+module _ (w : tie.After-is_wrong invariant-loop decreases-loop) where
+  abbrev l : tie.At-loop-at invariant-loop decreases-loop
   l = w.before.before.before.before
 
   abbrev cs : List ℕ
   cs = l.before.before.args.characters.now
 
-  tested : (b : Bool) → w.is-wrong.result ≡ b → is_wrong (extend l.loop.prefix (get_or cs l.loop.at 0)) ≡ b
-  tested b e = ap is_wrong (sym w.before.extend.ensures) ∙ sym w.is-wrong.ensures ∙ e
+  tested : (b : Bool) → w.is_wrong.result ≡ b → is_wrong (extend l.loop-at.prefix (get_or cs l.loop-at.at 0)) ≡ b
+  tested b e = ap is_wrong (sym w.before.extend-prefix.ensures) ∙ sym w.is_wrong.ensures ∙ e
 
-  in-turn : l.loop.at < length cs
-  in-turn = w.before.before.before.loop-test.taken
+  in-turn : l.loop-at.at < length cs
+  in-turn = w.before.before.before.loop-at-test.true
 
-loop-again : tie.Need-loop-preserved invariant-loop decreases-loop
+loop-again : tie.Need-loop-at-preserved invariant-loop decreases-loop
 loop-again c =
     let w = c.before in
-    let at = (l w).loop.at in
-    let on = matched_on (l w).loop.prefix (cs w) at (in-turn w) (tested w false c.if1.false) in
-    ap (λ (s : Prefix). at + 1 + matched s (drop (at + 1) (cs w))) w.before.extend.ensures ∙ omega (arith, on, (l w).loop.invariant)
+    let at = (l w).loop-at.at in
+    let on = matched_on (l w).loop-at.prefix (cs w) at (in-turn w) (tested w false c.if-is_wrong.false) in
+    ap (λ (s : Prefix). at + 1 + matched s (drop (at + 1) (cs w))) w.before.extend-prefix.ensures ∙ omega (arith, on, (l w).loop-at.invariant)
 
-returns : tie.Need-returns invariant-loop decreases-loop
+returns : tie.Need-returns-after-loop-at invariant-loop decreases-loop
 returns c =
     let l = c.before in
-    let end = matched_end l.loop.prefix l.before.before.args.characters.now l.loop.at c.loop-test.false in
-    omega (arith, end, l.loop.invariant)
+    let end = matched_end l.loop-at.prefix l.before.before.args.characters.now l.loop-at.at c.loop-at-test.false in
+    omega (arith, end, l.loop-at.invariant)
 
-returns-2 : tie.Need-returns-2 invariant-loop decreases-loop
+returns-2 : tie.Need-returns-then-is_wrong invariant-loop decreases-loop
 returns-2 c =
     let w = c.before in
-    let here = matched_here (l w).loop.prefix (cs w) (l w).loop.at (in-turn w) (tested w true c.if1.true) in
-    omega (arith, here, (l w).loop.invariant)
+    let here = matched_here (l w).loop-at.prefix (cs w) (l w).loop-at.at (in-turn w) (tested w true c.if-is_wrong.true) in
+    omega (arith, here, (l w).loop-at.invariant)
 
-pub position-spec : {M : Type 1} → statement M
-position-spec = tie.close (tie.spec
+pub position_spec : {M : Type 1} → statement M
+position_spec = tie.close (tie.spec
     invariant-loop decreases-loop loop-holds shared-slice-read-extend (λ c κs. search rules) (λ c κs. search rules) add_at loop-less loop-again returns
     returns-2)

@@ -1,0 +1,12 @@
+-- `abi::kav_normal_form` meets its contract: the result is that of the call, which leaves the buffer. Assumes nothing.
+use mathlib.Core.Path.{ap, ◌∙◌}
+use lib.IntN.{ℤ}
+use Rattle.abi.specs.Result.{filled, given}
+use Rattle.abi.proofs.Laws.{wide_ok}
+use borrow.Author.Rules.{rules}
+use Rattle.abi.proofs.kav_normal_form.Goals as goal
+
+pub returns : goal.returns
+returns c =
+    let n = c.before.before.before.normal_form in
+    ap (λ (z : ℤ). filled z n.new.1.0) (wide_ok c.result.result c.result.type_inv ∙ c.result.ensures) ∙ ap given n.ensures

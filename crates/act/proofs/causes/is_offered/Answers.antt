@@ -1,0 +1,13 @@
+-- `act::causes::is_offered` meets its contract: the arm and the test are the definition's. Assumes nothing.
+use mathlib.Core.Path.{sym}
+use Rattle.act.specs.Cause.{is_offered}
+use borrow.Author.Rules.{rules}
+use Rattle.act.proofs.causes.is_offered.Goals as goal
+
+pub returns-in_default : goal.returns-in_default
+unfolding is_offered
+returns-in_default c = sym (rw c.enum_told-1.given.1)
+
+pub returns : goal.returns
+unfolding is_offered
+returns c = sym (rw c.before.offer-1.given.1)

@@ -1,0 +1,18 @@
+-- `bus::fits_sheets` meets its contract: both tests. Assumes nothing.
+use mathlib.Core.Path.{ap, ap₂, ◌∙◌}
+use mathlib.Core.Bool.{◌&&◌}
+use borrow.Author.Rules.{rules}
+use Rattle.bus.specs.Inner.{card_row_fits}
+use Rattle.bus.specs.Refusals.{fits_sheets}
+use Rattle.card.specs.declared.Card.{Card}
+use Rattle.card.specs.Refusals.{sound_offer, sound_scan}
+use Rattle.bus.proofs.fits_sheets.Goals as goal
+
+pub returns : goal.returns
+unfolding card_row_fits fits_sheets
+returns c =
+    let o = c.before in
+    let h = o.before.before in
+    let a = h.before.args in
+    ap₂ ◌&&◌ (o.sound_offer.ensures ∙ ap (λ (x : Card). sound_offer a.bench.now a.maker.now x.offer) h.card_of-held.ensures)
+    (c.sound_scan.ensures ∙ ap (λ (x : Card). sound_scan a.bench.now a.maker.now x.setup-1) h.card_of-held.ensures)

@@ -1,0 +1,59 @@
+-- `bus::all_hold` meets its contract. The loop's invariant: the first i rows passed. Assumes nothing.
+use mathlib.Core.Path.{ap, ◌∙◌}
+use mathlib.Core.Bool.{Bool}
+use mathlib.Core.List.{List}
+use Prim.Native.Nat.{◌-◌}
+use native.Mathlib.Omega.{arith}
+use borrow.Author.Rules.{rules}
+use borrow.Author.Tests.{not-true, not-false}
+use lib.IntN.{ℤ}
+use Rattle.hearing.specs.declared.Pending.{Pending}
+use Rattle.bus.specs.Refusals.{same_open}
+use Rattle.bus.specs.Inner.{pending_in}
+use Rattle.bus.proofs.Parts.{TestedParts, parts_start, parts_pass, parts_fail, parts_end}
+use Rattle.bus.proofs.pair.all_hold.Invariants.{holds}
+use Rattle.bus.proofs.pair.all_hold.Goals as goal
+
+pub loop-i-init : goal.loop-i-init
+loop-i-init c = parts_start 23 (holds _) _ _
+
+pub overflow_mul-start : goal.overflow_mul-start
+overflow_mul-start c = omega arith
+
+pub overflow_add-end : goal.overflow_add-end
+overflow_add-end c = omega arith
+
+pub offset_bounds-numbers-start : goal.offset_bounds-numbers-start
+offset_bounds-numbers-start c = omega arith
+
+pub slice_bounds-open_in-count : goal.slice_bounds-open_in-count
+slice_bounds-open_in-count c = omega arith
+
+pub slice_bounds-open_in-start : goal.slice_bounds-open_in-start
+slice_bounds-open_in-start c = omega arith
+
+pub slice_bounds-open_in-end : goal.slice_bounds-open_in-end
+slice_bounds-open_in-end c = omega arith
+
+pub overflow_add-i : goal.overflow_add-i
+overflow_add-i c = omega arith
+
+pub loop-i-smaller : goal.loop-i-smaller
+loop-i-smaller c = omega arith
+
+pub returns-then-not-same_open : goal.returns-then-not-same_open
+returns-then-not-same_open c =
+    let s = c.before in
+    let n = s.before.before.before in
+    let p = n.before.before.args.pending in
+    parts_fail 23 (holds p) _ _ n.before.loop-i.invariant n.loop-i-test.true (s.same_open.ensures ∙ ap (same_open p) s.before.open_in.ensures) (not-true _ c.if-not-same_open.true)
+
+pub loop-i-preserved : goal.loop-i-preserved
+loop-i-preserved c =
+    let s = c.before in
+    let n = s.before.before.before in
+    let p = n.before.before.args.pending in
+    parts_pass 23 (holds p) _ _ n.before.loop-i.invariant n.loop-i-test.true (s.same_open.ensures ∙ ap (same_open p) s.before.open_in.ensures) (not-false _ c.if-not-same_open.false)
+
+pub returns : goal.returns
+returns c = parts_end 23 (holds _) _ _ c.before.loop-i.invariant c.loop-i-test.false

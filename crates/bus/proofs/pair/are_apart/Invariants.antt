@@ -1,0 +1,16 @@
+-- `bus::are_apart` meets its contract. The loop's invariant: the rest decides. Assumes nothing.
+use mathlib.Core.Path.{◌≡◌, refl, sym, ◌∙◌}
+use Prim.Native.Nat.{◌-◌, ◌≤◌}
+use native.Mathlib.Omega.{arith}
+use borrow.Author.Rules.{rules}
+use borrow.Author.Tests.{not-true, not-false}
+use lib.ListN.{length, take, drop}
+use Rattle.bus.specs.Refusals.{apart}
+use Rattle.bus.proofs.Apart.{apart_more, apart_fails, apart_ends}
+use Rattle.bus.proofs.pair.are_apart.Given as goal
+
+abbrev pub invariant-loop-i : goal.invariant-loop-i
+invariant-loop-i l = apart (take l.count l.setups) ≡ apart (drop l.i (take l.count l.setups))
+
+abbrev pub decreases-loop-i : goal.decreases-loop-i
+decreases-loop-i l = l.count - l.i

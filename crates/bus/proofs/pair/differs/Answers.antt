@@ -1,0 +1,52 @@
+-- `bus::differs` meets its contract. The loop's invariant: the rest decides. Assumes nothing.
+use mathlib.Core.Path.{◌≡◌, refl}
+use mathlib.Core.Bool.{Bool, not}
+use Prim.Native.Nat.{◌-◌, ◌≤◌}
+use native.Mathlib.Omega.{arith}
+use lib.ListN.{length, take, drop}
+use Rattle.refusal.specs.Lists.{every}
+use Rattle.act.specs.declared.Setup.{Setup}
+use Rattle.bus.specs.Refusals.{alike}
+use Rattle.bus.proofs.Apart.{differs_more, differs_fails, differs_ends}
+use Rattle.bus.proofs.pair.differs.Invariants.{tests}
+use Rattle.bus.proofs.pair.differs.Goals as goal
+
+pub loop-j-init : goal.loop-j-init
+loop-j-init c = refl
+
+pub offset_bounds-setups-j : goal.offset_bounds-setups-j
+offset_bounds-setups-j c = omega arith
+
+pub bounds-setups-j : goal.bounds-setups-j
+bounds-setups-j c = omega arith
+
+pub overflow_add-j : goal.overflow_add-j
+overflow_add-j c = omega arith
+
+pub loop-j-smaller : goal.loop-j-smaller
+loop-j-smaller c = omega arith
+
+-- there are 32
+enough : (s : goal.Start invariant-loop-j decreases-loop-j) → s.args.count ≤ length s.args.t1
+enough s = omega (arith, s.well_formed.0.1.0.1)
+
+pub returns-then-setup-other : goal.returns-then-setup-other
+unfolding alike
+returns-then-setup-other c =
+    let o = c.before.before.before.before.before in
+    let l = o.before.before in
+    let s = l.before in
+    differs_fails s.args.t1 s.args.count (enough s) s.args.setup s.args.from l.loop-j.invariant _ o.before.loop-j-test.true c.if-setup-other.true
+
+pub loop-j-preserved : goal.loop-j-preserved
+unfolding alike
+loop-j-preserved c =
+    let o = c.before.before.before.before.before in
+    let l = o.before.before in
+    let s = l.before in
+    differs_more s.args.t1 s.args.count (enough s) s.args.setup s.args.from l.loop-j.invariant _ o.before.loop-j-test.true c.if-setup-other.false
+
+pub returns : goal.returns
+returns c =
+    let s = c.before.before in
+    differs_ends s.args.t1 s.args.count (enough s) s.args.setup s.args.from c.before.loop-j.invariant c.loop-j-test.false

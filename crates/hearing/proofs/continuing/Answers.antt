@@ -1,0 +1,17 @@
+-- `hearing::continuing` meets its contract: the arm taken says what was received. Assumes nothing.
+use borrow.Author.Tests.{eq-eqb, ne_eqb}
+use Rattle.hearing.specs.Hearing.{continuing}
+use borrow.Author.Rules.{rules}
+use Rattle.hearing.proofs.continuing.Goals as goal
+
+pub returns-in_default : goal.returns-in_default
+unfolding continuing
+returns-in_default c = rw c.enum_told-1.given.1
+
+pub returns-then-c-eq42 : goal.returns-then-c-eq42
+unfolding continuing
+returns-then-c-eq42 c = rw c.before.before.received-1.given.1 (rw (eq-eqb _ _ c.if-c-eq42.true))
+
+pub returns-else-c-eq42 : goal.returns-else-c-eq42
+unfolding continuing
+returns-else-c-eq42 c = rw c.before.before.received-1.given.1 (rw (ne_eqb _ _ c.if-c-eq42.false))

@@ -1,0 +1,16 @@
+-- `hearing::count_of` meets its contract: the arm taken says what was heard. Assumes nothing.
+use mathlib.Core.Path.{sym, ap, ◌∙◌}
+use lib.ListN.{length}
+use Rattle.wire.proofs.Words.{travelling_length}
+use Rattle.message.specs.declared.Parsed.{Parsed}
+use Rattle.hearing.specs.Inner.{worth}
+use borrow.Author.Rules.{rules}
+use Rattle.hearing.proofs.passes.count_of.Goals as goal
+
+pub returns-in_default : goal.returns-in_default
+unfolding worth
+returns-in_default c = rw c.enum_told-1.given.1
+
+pub returns : goal.returns
+unfolding worth
+returns c = c.spelled_len.ensures ∙ sym (ap (λ (m : Parsed). length (worth m)) c.before.before.message-1.given.1 ∙ travelling_length _)

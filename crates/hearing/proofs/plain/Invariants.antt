@@ -1,0 +1,16 @@
+-- `hearing::plain` meets its contract. The loop's invariant: the characters are plain exactly when those from i on are.
+-- Assumes nothing.
+use mathlib.Core.Bool.{true}
+use borrow.Author.Tests.{not-true, not-false}
+use Prim.Native.Nat.{◌-◌}
+use native.Mathlib.Omega.{arith}
+use lib.ListN.{length}
+use Rattle.refusal.proofs.Lists.{Tested, test_starts, test_passes, test_fails, test_ends}
+use Rattle.hearing.specs.Sound.{plain_char, plain}
+use Rattle.hearing.proofs.plain.Given as goal
+
+abbrev pub invariant-loop-i : goal.invariant-loop-i
+invariant-loop-i l = Tested plain_char l.chars true l.i
+
+abbrev pub decreases-loop-i : goal.decreases-loop-i
+decreases-loop-i l = length l.chars - l.i

@@ -1,0 +1,15 @@
+-- `message::body_len` meets its contract: one character, or `#` and five digits. Assumes nothing.
+use mathlib.Core.Path.{sym, ap, ◌∙◌}
+use lib.ListN.{length}
+use Rattle.message.specs.declared.Kind.{Kind}
+use Rattle.message.specs.Spell.{spell_kind}
+use Rattle.message.proofs.Spelling.{data_kind_length}
+use borrow.Author.Rules.{rules}
+use Rattle.message.proofs.body_len.Goals as goal
+
+pub returns-in-Sign : goal.returns-in-Sign
+unfolding spell_kind
+returns-in-Sign c = sym (rw (sym c.before.before.kind_of.ensures ∙ c.enum_told-1.given.1))
+
+pub returns-in-Data : goal.returns-in-Data
+returns-in-Data c = sym (ap (λ (k : Kind). length (spell_kind k)) (sym c.before.before.kind_of.ensures ∙ c.enum_told-in-Data-1.given.1) ∙ data_kind_length _)

@@ -1,0 +1,29 @@
+-- `message::fits_body` meets its contract: the arm taken says which body it is. Assumes nothing.
+use Rattle.message.specs.Message.{fits_body}
+use borrow.Author.Rules.{rules}
+use Rattle.message.proofs.fits_body.Goals as goal
+
+pub returns-in-Status : goal.returns-in-Status
+unfolding fits_body
+returns-in-Status c = rw c.enum_told-1.given.1
+
+pub returns-in-Query : goal.returns-in-Query
+unfolding fits_body
+returns-in-Query c = rw c.enum_told-in-Query-1.given.1
+
+pub returns-in-Up : goal.returns-in-Up
+unfolding fits_body
+returns-in-Up c = rw c.enum_told-in-Up-1.given.1
+
+pub returns-in-Down : goal.returns-in-Down
+unfolding fits_body
+returns-in-Down c = rw c.enum_told-in-Down-1.given.1
+
+pub returns-in-Set : goal.returns-in-Set
+unfolding fits_body
+returns-in-Set c =
+    rw c.before.before.body-1.given.1 (simp c.fits_numeral.ensures)
+
+pub returns-in-Store : goal.returns-in-Store
+unfolding fits_body
+returns-in-Store c = rw c.enum_told-in-Store-1.given.1

@@ -1,0 +1,29 @@
+-- `message::kind_of` meets its contract: the arm taken says which body it is. Assumes nothing.
+use mathlib.Core.Path.{sym}
+use Rattle.message.specs.Spell.{kind_of}
+use borrow.Author.Rules.{rules}
+use Rattle.message.proofs.kind_of.Goals as goal
+
+pub returns-in-Status : goal.returns-in-Status
+unfolding kind_of
+returns-in-Status c = sym (rw c.enum_told-1.given.1)
+
+pub returns-in-Query : goal.returns-in-Query
+unfolding kind_of
+returns-in-Query c = sym (rw c.enum_told-in-Query-1.given.1)
+
+pub returns-in-Up : goal.returns-in-Up
+unfolding kind_of
+returns-in-Up c = sym (rw c.enum_told-in-Up-1.given.1)
+
+pub returns-in-Down : goal.returns-in-Down
+unfolding kind_of
+returns-in-Down c = sym (rw c.enum_told-in-Down-1.given.1)
+
+pub returns-in-Set : goal.returns-in-Set
+unfolding kind_of
+returns-in-Set c = sym (rw c.before.body-1.given.1)
+
+pub returns-in-Store : goal.returns-in-Store
+unfolding kind_of
+returns-in-Store c = sym (rw c.enum_told-in-Store-1.given.1)

@@ -1,0 +1,21 @@
+-- `message::recogniser::is_wrong` meets its contract: the arm taken says which state it is. Assumes nothing.
+use mathlib.Core.Path.{sym}
+use mathlib.Core.List.{[], ◌∷◌}
+use types.Run.{miss}
+use Rattle.refusal.proofs.Logic.{by-test}
+use Rattle.message.specs.Position.{is_wrong}
+use Rattle.message.proofs.Matched.{wrong_is}
+use borrow.Author.Rules.{rules}
+use Rattle.message.proofs.recogniser.is_wrong.Goals as goal
+
+pub returns-in-Wrong : goal.returns-in-Wrong
+unfolding is_wrong
+returns-in-Wrong c = sym (rw c.enum_told-1.given.1)
+
+-- in the other arm the state is one of the first seven
+pub returns-in_default : goal.returns-in_default
+returns-in_default c =
+    let p = c.before.args.prefix in
+    by-test (is_wrong p)
+    (λ t. absurd (miss (0 ∷ 1 ∷ 2 ∷ 3 ∷ 4 ∷ 5 ∷ 6 ∷ []) 7 tt (rw (wrong_is p t) at c.in_default.keys2)))
+    (λ t. sym t)

@@ -1,0 +1,18 @@
+-- `models::put_rows` meets its contract: the numbers up to the line reached are those of the lines passed. Assumes nothing.
+use mathlib.Core.Path.{◌≡◌, refl, sym, ap, ap₂, ◌∙◌}
+use mathlib.Core.List.{List, [], ◌∷◌, ◌++◌, append-nil, append_assoc}
+use Prim.Native.Nat.{ℕ, ◌≤◌, ◌<◌, ◌+◌, ◌*◌, ◌-◌}
+use native.Mathlib.Numerals.{add-one}
+use native.Mathlib.Omega.{arith}
+use lib.IntN.{ℤ}
+use lib.ListN.{length, get_or, take}
+use lib.Seq.{paste, take-suc, take-paste, take_all}
+use Rattle.models.specs.Table.{sheet_of}
+use Rattle.models.proofs.put_rows.Given as goal
+
+abbrev pub invariant-loop-i : goal.invariant-loop-i
+invariant-loop-i l =
+    (l.i ≤ length l.table) × (length l.sheet-1 ≡ length l.table * 6) × (sheet_of (take l.i l.table) ≡ take (l.i * 6) l.sheet-1)
+
+abbrev pub decreases-loop-i : goal.decreases-loop-i
+decreases-loop-i l = length l.table - l.i

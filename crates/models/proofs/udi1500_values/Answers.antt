@@ -1,0 +1,13 @@
+-- `models::udi1500_values` meets its contract: `indicator` gives the table, and `put_values` fills its values in. Assumes nothing.
+use mathlib.Core.Path.{refl}
+use Rattle.models.specs.Table.{filled, values_of}
+use borrow.Author.Rules.{rules}
+use Rattle.models.proofs.Models.{udi1500_sound}
+use Rattle.models.proofs.udi1500_values.Goals as goal
+
+pub put_values-requires : goal.put_values-requires
+put_values-requires c = (rw (c.before.before.indicator-table.ensures, udi1500_sound.codes), refl)
+
+pub returns : goal.returns
+unfolding values_of filled
+returns c = rw c.before.before.before.before.indicator-table.ensures at c.before.put_values.ensures
