@@ -30,7 +30,7 @@ unfolding fits_numeral
 returns-else-x c =
     let d = c.before in
     let x = d.before.before.args.x in
-    c.fits2.ensures ∙ ap fits d.as_decimal.ensures ∙ sym (rw d.before.if-x.false (always (fits (as_decimal x))))
+    c.fits.ensures ∙ ap fits d.as_decimal.ensures ∙ sym (rw d.before.if-x.false (always (fits (as_decimal x))))
   where
     always : (b : Bool) → (b && true) ≡ b
     always b = by-test b (λ t. rw t) (λ t. rw t)

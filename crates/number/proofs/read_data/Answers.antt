@@ -25,4 +25,4 @@ five (a ∷ b ∷ c ∷ d ∷ e ∷ f ∷ s) h = absurd (omega arith)
 pub returns : goal.returns
 returns c =
     let s = c.before.before.before.before.before in
-    cc (five s.args.t1 (good_length (e_int w8) 5 s.args.t1 _ s.well_formed.0))
+    cc (five s.args.s (good_length (e_int w8) 5 s.args.s _ s.well_formed.0))

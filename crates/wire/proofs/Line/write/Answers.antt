@@ -7,30 +7,25 @@ use lib.ListN.{length, take}
 use lib.Seq.{length-take-le}
 use Rattle.refusal.specs.Call.{place_call}
 use Rattle.refusal.proofs.Calls.{placed_writes}
+use Rattle.wire.specs.declared.Line.{Line}
 use Rattle.wire.specs.Inner.{bytes_of}
 use Rattle.wire.proofs.Lines.{take_counted, bytes_fit}
 use Rattle.wire.proofs.Line.write.Goals as goal
 
-module _ (c : goal.After-count-end) where
-  -- the line holds no more than its array
-  fit : c.count-end.result ≤ length c.before.before.before.args.self.bytes
-  fit = subst (λ (n : ℕ). n ≤ length c.before.before.before.args.self.bytes) (sym c.count-end.ensures) (bytes_fit c.before.before.before.args.self)
+-- so many of a line's bytes are in its array, and they are what it holds
+fit : (l : Line) (n : ℕ) → n ≡ length (bytes_of l) → n ≤ length l.bytes
+fit l n e = subst (λ (k : ℕ). k ≤ length l.bytes) (sym e) (bytes_fit l)
 
-  -- and the part that is placed is what it holds
-  part : take c.count-end.result c.before.before.before.args.self.bytes ≡ bytes_of c.before.before.before.args.self
-  unfolding bytes_of
-  part =
-      ap (λ (n : ℕ). take n c.before.before.before.args.self.bytes) c.count-end.ensures
-      ∙ take_counted c.before.before.before.args.self.len c.before.before.before.args.self.bytes
+part : (l : Line) (n : ℕ) → n ≡ length (bytes_of l) → take n l.bytes ≡ bytes_of l
+unfolding bytes_of
+part l n e = ap (λ (k : ℕ). take k l.bytes) e ∙ take_counted l.len l.bytes
 
 pub slice_bounds-bytes-end : goal.slice_bounds-bytes-end
-slice_bounds-bytes-end c = fit c
+slice_bounds-bytes-end c = fit c.args.self _ c.count-end.ensures
 
 pub slice_bounds-place-end : goal.slice_bounds-place-end
-slice_bounds-place-end c = sym (length-take-le _ _ (fit c.before))
+slice_bounds-place-end c = sym (length-take-le _ _ (fit c.args.self _ c.count-end.ensures))
 
 pub returns : goal.returns
 returns c =
-    let a = c.before.before.before.before.before in
-    let out = a.before.before.before.args.out.now in
-    c.before.before.place.ensures ∙ ap (λ (l : List ℕ). place_call l 0 out) (part a) ∙ placed_writes _ out
+    c.place.ensures ∙ ap (λ (l : List ℕ). place_call l 0 c.args.out.now) (part c.args.self _ c.count-end.ensures) ∙ placed_writes _ c.args.out.now
