@@ -33,7 +33,7 @@ parts m e = record { is-letter = search ands; is-address = search ands; is-ident
 
 pub whole : (m : Message) → Parts m → is_message m ≡ true
 unfolding is_message
-whole m p = and_both (and_both (and_both p.is-letter p.is_address) p.is-identifier) p.fits-body
+whole m p = and_both (and_both (and_both p.is-letter p.is-address) p.is-identifier) p.fits-body
 
 -- a body by its type: Type 1 has the identifier `?`, every other type another, and Type 3 a number that can be written
 abbrev pub BodyParts : ℕ → Body → Type 0
@@ -94,7 +94,7 @@ unsigned_message m e =
     let p = parts m e in
     whole (unsigned_zero m) (record {
       is-letter = p.is-letter;
-      is-address = p.is_address;
+      is-address = p.is-address;
       is-identifier = p.is-identifier;
       fits-body = parts_body m.identifier (unsigned_body m.body) (unsigned_fits m.identifier m.body (body_parts m.identifier m.body p.fits-body));
     })

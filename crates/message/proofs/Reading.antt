@@ -107,7 +107,7 @@ all_front l a i cs p q r = ap (λ (s : Prefix). extend_all s (spell_address a ++
 all_spell : (m : Message) → Parts m → extend_all Start (spell_open m) ≡ Complete m
 unfolding spell_open
 all_spell m p =
-    all_front m.letter m.address m.identifier (spell_body m.body) p.is-letter p.is_address p.is-identifier
+    all_front m.letter m.address m.identifier (spell_body m.body) p.is-letter p.is-address p.is-identifier
     ∙ all_body m.letter m.address m.identifier m.body p.fits-body
 
 -- what is spelled is read

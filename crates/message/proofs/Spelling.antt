@@ -61,7 +61,7 @@ plain_body Store = (record { small = lit< tt; no_star = refl }, tt)
 -- behind the letter
 pub plain_rest : (m : Message) → Parts m → Plain (spell_address m.address ++ (m.identifier ∷ spell_body m.body))
 plain_rest m p =
-    each_append PlainChar (spell_address m.address) (m.identifier ∷ spell_body m.body) (plain_address m.address p.is_address)
+    each_append PlainChar (spell_address m.address) (m.identifier ∷ spell_body m.body) (plain_address m.address p.is-address)
     (plain_identifier m.identifier p.is-identifier, plain_body m.body)
 
 -- all of them, with the letter and the `*`, are of seven bits

@@ -23,17 +23,17 @@ module _ (r : tie.After-read_data-data) where
 
 returns-2 : tie.Need-returns-in-Partial
 unfolding extend_data finish
-returns-2 c = rw (read_is c.before.before ∙ c.enum_told-1.given.1)
+returns-2 c = rw (read_is c.before ∙ c.in-Partial.is)
 
 returns-3 : tie.Need-returns-in-Number
 unfolding extend_data finish
 returns-3 c =
     let k = c.before in
-    c.heard.ensures ∙ sym (rw (read_is k.before.before.before ∙ k.before.data-1.given.1))
+    c.heard.ensures ∙ sym (rw (read_is k.before ∙ k.in-Number.is))
 
 returns-4 : tie.Need-returns-in-Invalid
 unfolding extend_data finish
-returns-4 c = rw (read_is c.before.before ∙ c.enum_told-in-Invalid-1.given.1)
+returns-4 c = rw (read_is c.before ∙ c.in-Invalid.is)
 
 pub behind_hash_spec : {M : Type 1} → statement M
 behind_hash_spec = tie.close (tie.spec

@@ -9,7 +9,7 @@ use Rattle.message.proofs.body_len.Goals as goal
 
 pub returns-in-Sign : goal.returns-in-Sign
 unfolding spell_kind
-returns-in-Sign c = sym (rw (sym c.before.before.kind_of.ensures ∙ c.enum_told-1.given.1))
+returns-in-Sign c = sym (rw (sym c.kind_of.ensures ∙ c.in-Sign.is))
 
 pub returns-in-Data : goal.returns-in-Data
-returns-in-Data c = sym (ap (λ (k : Kind). length (spell_kind k)) (sym c.before.before.kind_of.ensures ∙ c.enum_told-in-Data-1.given.1) ∙ data_kind_length _)
+returns-in-Data c = sym (ap (λ (k : Kind). length (spell_kind k)) (sym c.kind_of.ensures ∙ c.in-Data.is) ∙ data_kind_length _)

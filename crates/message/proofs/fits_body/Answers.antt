@@ -5,25 +5,25 @@ use Rattle.message.proofs.fits_body.Goals as goal
 
 pub returns-in-Status : goal.returns-in-Status
 unfolding fits_body
-returns-in-Status c = rw c.enum_told-1.given.1
+returns-in-Status c = rw c.in-Status.is
 
 pub returns-in-Query : goal.returns-in-Query
 unfolding fits_body
-returns-in-Query c = rw c.enum_told-in-Query-1.given.1
+returns-in-Query c = rw c.in-Query.is
 
 pub returns-in-Up : goal.returns-in-Up
 unfolding fits_body
-returns-in-Up c = rw c.enum_told-in-Up-1.given.1
+returns-in-Up c = rw c.in-Up.is
 
 pub returns-in-Down : goal.returns-in-Down
 unfolding fits_body
-returns-in-Down c = rw c.enum_told-in-Down-1.given.1
+returns-in-Down c = rw c.in-Down.is
 
 pub returns-in-Set : goal.returns-in-Set
 unfolding fits_body
 returns-in-Set c =
-    rw c.before.before.body-1.given.1 (simp c.fits_numeral.ensures)
+    rw c.in-Set.is (simp c.fits_numeral.ensures)
 
 pub returns-in-Store : goal.returns-in-Store
 unfolding fits_body
-returns-in-Store c = rw c.enum_told-in-Store-1.given.1
+returns-in-Store c = rw c.in-Store.is

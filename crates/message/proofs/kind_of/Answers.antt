@@ -6,24 +6,24 @@ use Rattle.message.proofs.kind_of.Goals as goal
 
 pub returns-in-Status : goal.returns-in-Status
 unfolding kind_of
-returns-in-Status c = sym (rw c.enum_told-1.given.1)
+returns-in-Status c = sym (rw c.in-Status.is)
 
 pub returns-in-Query : goal.returns-in-Query
 unfolding kind_of
-returns-in-Query c = sym (rw c.enum_told-in-Query-1.given.1)
+returns-in-Query c = sym (rw c.in-Query.is)
 
 pub returns-in-Up : goal.returns-in-Up
 unfolding kind_of
-returns-in-Up c = sym (rw c.enum_told-in-Up-1.given.1)
+returns-in-Up c = sym (rw c.in-Up.is)
 
 pub returns-in-Down : goal.returns-in-Down
 unfolding kind_of
-returns-in-Down c = sym (rw c.enum_told-in-Down-1.given.1)
+returns-in-Down c = sym (rw c.in-Down.is)
 
 pub returns-in-Set : goal.returns-in-Set
 unfolding kind_of
-returns-in-Set c = sym (rw c.before.body-1.given.1)
+returns-in-Set c = sym (rw c.in-Set.is)
 
 pub returns-in-Store : goal.returns-in-Store
 unfolding kind_of
-returns-in-Store c = sym (rw c.enum_told-in-Store-1.given.1)
+returns-in-Store c = sym (rw c.in-Store.is)

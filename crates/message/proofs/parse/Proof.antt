@@ -6,7 +6,6 @@ use mathlib.Core.List.{List}
 use mathlib.Core.Logic.{⊎_elim}
 use Prim.Native.Nat.{ℕ, ◌+◌, ◌-◌, ◌*◌, ◌≤◌}
 use native.Mathlib.Omega.{arith}
-use borrow.Author.Tests.{not-true, not-false}
 use lib.ListN.{length, get_or, drop, length-drop}
 use Rattle.number.specs.Data.{is_digit, digit_of}
 use Rattle.number.proofs.Digits.{digit_ends}
@@ -44,16 +43,16 @@ module _ (t : tie.After-is_letter) where
 returns-2 : tie.Need-returns-then-not-is_letter
 returns-2 c =
     let t = c.before in
-    sym (past t ∙ no_letter (l t) (d t) (drop 2 (cs t)) (sym t.is_letter.ensures ∙ not-true _ c.if-not-is_letter.true))
+    sym (past t ∙ no_letter (l t) (d t) (drop 2 (cs t)) (sym t.is_letter.ensures ∙ c.if-not-is_letter.true))
 
 is-letter : (c : tie.Else-not-is_letter) → is_letter (l c.before) ≡ true
-is-letter c = sym c.before.is_letter.ensures ∙ not-false _ c.if-not-is_letter.false
+is-letter c = sym c.before.is_letter.ensures ∙ c.if-not-is_letter.false
 
 returns-3 : tie.Need-returns-then-not-is_digit
 returns-3 c =
     let k = c.before.before in
     let t = k.before in
-    sym (past t ∙ no_digit (l t) (d t) (drop 2 (cs t)) (is-letter k) (sym c.before.is_digit.ensures ∙ not-true _ c.if-not-is_digit.true))
+    sym (past t ∙ no_digit (l t) (d t) (drop 2 (cs t)) (is-letter k) (sym c.before.is_digit.ensures ∙ c.if-not-is_digit.true))
 
 -- behind a letter and a digit
 module _ (c : tie.Else-not-is_digit) where
@@ -68,7 +67,7 @@ module _ (c : tie.Else-not-is_digit) where
   two = digit_of (d there) * 10 + digit_of (e there)
 
   is-digit : is_digit (d there) ≡ true
-  is-digit = sym c.before.is_digit.ensures ∙ not-false _ c.if-not-is_digit.false
+  is-digit = sym c.before.is_digit.ensures ∙ c.if-not-is_digit.false
 
   past-digit : parse (cs there) ≡ leads (Digit (l there) one) (drop 2 (cs there))
   past-digit = past there ∙ ap (λ (s : Prefix). leads s (drop 2 (cs there))) (first_digit (l there) (d there) (is-letter c.before.before) is-digit)
@@ -100,11 +99,11 @@ returns-4 c =
     let t = there k in
     let n = f.if-characters-eq5.true in
     sym
-    (by_one k (sym c.before.is_digit-then-characters-eq5.ensures ∙ not-true _ c.if-not-is_digit-2.true)
+    (by_one k (sym c.before.is_digit-then-characters-eq5.ensures ∙ c.if-not-is_digit-2.true)
     ∙ wrong_length (l t) (one k) (drop 2 (cs t)) (λ h. omega (arith, length-drop 2 (cs t))) (λ h. omega (arith, length-drop 2 (cs t))))
 
 is-second : (c : tie.Else-not-is_digit-2) → is_digit (e (there c.before.before.before.before.before)) ≡ true
-is-second c = sym c.before.is_digit-then-characters-eq5.ensures ∙ not-false _ c.if-not-is_digit-2.false
+is-second c = sym c.before.is_digit-then-characters-eq5.ensures ∙ c.if-not-is_digit-2.false
 
 mul-address : tie.Need-overflow_mul-address
 mul-address c = record { fits = omega (arith, (digit_ends _ (is-digit c.before.before.before.before.before)).1) }
@@ -134,15 +133,15 @@ module _ (j : tie.Joined-characters-eq5) where
   sign-is : signed j.if-characters-eq5.address j.if-characters-eq5.identifier (length chars - 1) ≡ parse chars
   unfolding digit_of
   sign-is =
-      ⊎_elim
-      (λ w.
-      let n = w.0.taken in
-      with-these w.4 w.5 (omega arith)
-      (by_two from (sym w.1.ensures ∙ not-false _ w.2.left) ∙ last_two (Address (l (there from)) (two from)) chars 3 n))
-      (λ w.
-      let n : length chars ≡ 4 = omega (arith, w.0.left) in
-      with-these w.1 w.2 (omega arith) (by-four from n ∙ last_two (Address (l (there from)) (one from)) chars 2 n))
-      j.if-characters-eq5.came
+      elim j.if-characters-eq5.branch [
+        tie.then-characters-eq5 w ↦
+          let n = w.if-characters-eq5.true in
+          with-these w.address-is w.identifier-is (omega arith)
+          (by_two from (sym w.is_digit-then-characters-eq5.ensures ∙ w.if-not-is_digit-2.false) ∙ last_two (Address (l (there from)) (two from)) chars 3 n)
+      | tie.else-characters-eq5 w ↦
+          let n : length chars ≡ 4 = omega (arith, w.if-characters-eq5.false) in
+          with-these w.address-is w.identifier-is (omega arith) (by-four from n ∙ last_two (Address (l (there from)) (one from)) chars 2 n)
+      ]
 
 returns-5 : tie.Need-returns-then-characters-lt6
 returns-5 c = c.with_sign.ensures ∙ sign-is c.before.before
@@ -168,15 +167,15 @@ module _ (j : tie.Joined-is_digit) where
   all = cs (there at-digit)
 
   near : j.if-is_digit.at ≤ 3
-  near = ⊎_elim (λ w. omega arith) (λ w. omega arith) j.if-is_digit.came
+  near = elim j.if-is_digit.branch [ tie.then-is_digit w ↦ omega arith | tie.else-is_digit w ↦ omega arith ]
 
   rest-is : leads (Address (l (there at-digit)) j.if-is_digit.address) (drop j.if-is_digit.at all) ≡ parse all
   unfolding digit_of
   rest-is =
-      ⊎_elim
-      (λ w. ap₂ (λ (a k : ℕ). leads (Address (l (there at-digit)) a) (drop k all)) w.1 w.2 ∙ sym (by_two at-digit (sym j.before.is_digit-2.ensures ∙ w.0.taken)))
-      (λ w. ap₂ (λ (a k : ℕ). leads (Address (l (there at-digit)) a) (drop k all)) w.1 w.2 ∙ sym (by_one at-digit (sym j.before.is_digit-2.ensures ∙ w.0.left)))
-      j.if-is_digit.came
+      elim j.if-is_digit.branch [
+        tie.then-is_digit w ↦ ap₂ (λ (a k : ℕ). leads (Address (l (there at-digit)) a) (drop k all)) w.address-is w.at-is ∙ sym (by_two at-digit (sym j.before.is_digit-2.ensures ∙ w.if-is_digit.true))
+      | tie.else-is_digit w ↦ ap₂ (λ (a k : ℕ). leads (Address (l (there at-digit)) a) (drop k all)) w.address-is w.at-is ∙ sym (by_one at-digit (sym j.before.is_digit-2.ensures ∙ w.if-is_digit.false))
+      ]
 
 sub-with-data : tie.Need-slice_bounds-with_data-count
 sub-with-data c = omega (arith, near c.before)

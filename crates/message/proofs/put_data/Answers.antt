@@ -11,7 +11,7 @@ use borrow.Author.Rules.{rules}
 use Rattle.message.proofs.put_data.Goals as goal
 
 pub returns-then-len-gt6 : goal.returns-then-len-gt6
-returns-then-len-gt6 c = c.put_all_lem.ensures ∙ ap (puts c.before.before.before.before.args.line) c.before.before.before.write_numeral-digits.ensures
+returns-then-len-gt6 c = c.put_all.ensures ∙ ap (puts c.before.before.before.before.args.line) c.before.before.before.write_numeral-digits.ensures
 
 pub returns : goal.returns
 returns c =

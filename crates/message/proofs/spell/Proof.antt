@@ -25,17 +25,15 @@ module _ (k : tie.After-kind_of) where
 returns : tie.Need-returns-in-Sign
 unfolding spell_kind puts
 returns c =
-    let s = c.before.before.before in
-    let k = s.before.before in
-    ends k _ _ (c.before.put.ensures ∙ sym (rw (sym k.kind_of.ensures ∙ s.c-1.given.1))) c.put-in-Sign.ensures
+    let k = c.before.before.before in
+    ends k _ _ (c.before.put.ensures ∙ sym (rw (sym k.kind_of.ensures ∙ c.in-Sign.is))) c.put-in-Sign.ensures
 
 returns-2 : tie.Need-returns-in-Data
 unfolding spell_kind puts
 returns-2 c =
     let d = c.before in
-    let s = d.before.before.before in
-    let k = s.before.before in
-    ends k _ _ (d.put_data.ensures ∙ sym (rw (sym k.kind_of.ensures ∙ s.x-1.given.1) (rw d.before.put-in-Data.ensures))) c.put-in-Data-2.ensures
+    let k = d.before.before.before in
+    ends k _ _ (d.put_data.ensures ∙ sym (rw (sym k.kind_of.ensures ∙ d.in-Data.is) (rw d.before.put-in-Data.ensures))) c.put-in-Data-2.ensures
 
 pub spell_spec : {M : Type 1} → statement M
 spell_spec = tie.close (tie.spec

@@ -5,7 +5,7 @@ use mathlib.Core.List.{List}
 use Prim.Native.Nat.{ℕ, ◌-◌, ◌<◌}
 use Prim.Native.Char.{code}
 use native.Mathlib.Omega.{arith}
-use borrow.Author.Tests.{eqb-true, not-true, not-false}
+use borrow.Author.Tests.{eqb-true}
 use lib.Dec.{eqb}
 use lib.ListN.{length, get_or, drop, length-drop}
 use Rattle.refusal.proofs.Logic.{and_left, and_right, and_both, not_is}
@@ -44,15 +44,15 @@ module _ (t : tie.After-is_address) where
   unheard e = sym (past ∙ no_identifier l a i c (drop 2 cs) e)
 
 is-address : (k : tie.Else-not-is_address) → is_address (a k.before) ≡ true
-is-address k = sym k.before.is_address.ensures ∙ not-false _ k.if-not-is_address.false
+is-address k = sym k.before.is_address.ensures ∙ k.if-not-is_address.false
 
 returns : tie.Need-returns-then-not-is_address
-returns c = unheard c.before (rw (sym c.before.is_address.ensures ∙ not-true _ c.if-not-is_address.true))
+returns c = unheard c.before (rw (sym c.before.is_address.ensures ∙ c.if-not-is_address.true))
 
 returns-2 : tie.Need-returns-then-not-is_identifier
 returns-2 c =
     let k = c.before.before in
-    unheard k.before (rw (is-address k, sym c.before.is_identifier.ensures ∙ not-true _ c.if-not-is_identifier.true))
+    unheard k.before (rw (is-address k, sym c.before.is_identifier.ensures ∙ c.if-not-is_identifier.true))
 
 -- behind the identifier
 module _ (k : tie.Else-not-is_identifier) where
@@ -63,7 +63,7 @@ module _ (k : tie.Else-not-is_identifier) where
   past-identifier =
       past here
       ∙ ap (λ (s : Prefix). leads (extend s (c here)) (drop 2 (cs here)))
-      (identifier (l here) (a here) (i here) (and_both (is-address k.before.before) (sym k.before.is_identifier.ensures ∙ not-false _ k.if-not-is_identifier.false)))
+      (identifier (l here) (a here) (i here) (and_both (is-address k.before.before) (sym k.before.is_identifier.ensures ∙ k.if-not-is_identifier.false)))
 
 returns-3 : tie.Need-returns-then-c-identifier
 returns-3 x =

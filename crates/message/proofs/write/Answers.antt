@@ -10,13 +10,12 @@ use Rattle.wire.proofs.Lines.{line_bytes}
 use Rattle.message.specs.Spell.{spell}
 use Rattle.message.proofs.Spelling.{write_refused, write_served}
 use borrow.Author.Rules.{rules}
-use borrow.Author.Tests.{not-true, not-false}
 use Rattle.message.proofs.write.Goals as goal
 
 pub returns-then-not-is_message : goal.returns-then-not-is_message
 returns-then-not-is_message c =
     let a = c.before.before.before.args in
-    sym (write_refused a.message a.out.now (sym c.before.is_message.ensures ∙ not-true _ c.if-not-is_message.true))
+    sym (write_refused a.message a.out.now (sym c.before.is_message.ensures ∙ c.if-not-is_message.true))
 
 pub returns : goal.returns
 returns c =
@@ -26,4 +25,4 @@ returns c =
     = ap bytes_of c.before.before.before.before.spell.ensures ∙ line_bytes (spell a.message) in
     c.before.before.write.ensures
     ∙ ap (λ (l : List ℕ). writes [] l a.out.now) line
-    ∙ sym (write_served a.message a.out.now (sym t.before.is_message.ensures ∙ not-false _ t.if-not-is_message.false))
+    ∙ sym (write_served a.message a.out.now (sym t.before.is_message.ensures ∙ t.if-not-is_message.false))

@@ -1,6 +1,5 @@
 -- `message::recogniser::extend` meets its contract: the arm taken says which state it is. Assumes nothing.
 use mathlib.Core.Path.{sym, ap, ◌∙◌}
-use borrow.Author.Tests.{not-true, not-false}
 use Rattle.number.specs.Data.{digit_of}
 use Rattle.number.proofs.Digits.{digit_ends}
 use Rattle.message.specs.Prefix.{extend_data, extend}
@@ -9,14 +8,14 @@ use Rattle.message.proofs.recogniser.extend.Goals as goal
 
 pub returns-then-is_letter : goal.returns-then-is_letter
 unfolding extend
-returns-then-is_letter c = rw c.before.before.enum_told-1.given.1 (sym (rw (sym c.before.is_letter.ensures ∙ c.if-is_letter.true)))
+returns-then-is_letter c = rw c.in-Start.is (sym (rw (sym c.before.is_letter.ensures ∙ c.if-is_letter.true)))
 
 pub returns-then-not-is_digit : goal.returns-then-not-is_digit
 unfolding extend
-returns-then-not-is_digit c = rw c.before.before.before.prefix-1.given.1 (sym (rw (sym c.before.is_digit.ensures ∙ not-true c.before.is_digit.result c.if-not-is_digit.true)))
+returns-then-not-is_digit c = rw c.in-Letter.is (sym (rw (sym c.before.is_digit.ensures ∙ c.if-not-is_digit.true)))
 
 pub overflow_sub-address : goal.overflow_sub-address
-overflow_sub-address c = (digit_ends _ (sym c.before.is_digit.ensures ∙ not-false c.before.is_digit.result c.if-not-is_digit.false)).0
+overflow_sub-address c = (digit_ends _ (sym c.before.is_digit.ensures ∙ c.if-not-is_digit.false)).0
 
 pub extend_address-requires : goal.extend_address-requires
 extend_address-requires c = sym c.before.is_digit-in-Digit.ensures ∙ c.if-is_digit.true
@@ -26,41 +25,41 @@ unfolding extend
 returns-then-is_digit c =
     let t = c.before in
     c.extend_address.ensures
-    ∙ sym (rw t.before.before.before.prefix-in-Digit-1.given.1 (rw (sym t.before.is_digit-in-Digit.ensures ∙ t.if-is_digit.true)))
+    ∙ sym (rw c.in-Digit.is (rw (sym t.before.is_digit-in-Digit.ensures ∙ t.if-is_digit.true)))
 
 pub returns-else-is_letter : goal.returns-else-is_letter
 unfolding extend
-returns-else-is_letter c = rw c.before.before.enum_told-1.given.1 (sym (rw (sym c.before.is_letter.ensures ∙ c.if-is_letter.false)))
+returns-else-is_letter c = rw c.in-Start.is (sym (rw (sym c.before.is_letter.ensures ∙ c.if-is_letter.false)))
 
 pub returns-else-not-is_digit : goal.returns-else-not-is_digit
 unfolding extend digit_of
-returns-else-not-is_digit c = rw c.before.before.before.prefix-1.given.1 (sym (rw (sym c.before.is_digit.ensures ∙ not-false c.before.is_digit.result c.if-not-is_digit.false)))
+returns-else-not-is_digit c = rw c.in-Letter.is (sym (rw (sym c.before.is_digit.ensures ∙ c.if-not-is_digit.false)))
 
 pub returns-else-is_digit : goal.returns-else-is_digit
 unfolding extend
 returns-else-is_digit c =
     let t = c.before in
     c.extend_identifier.ensures
-    ∙ sym (rw t.before.before.before.prefix-in-Digit-1.given.1 (rw (sym t.before.is_digit-in-Digit.ensures ∙ t.if-is_digit.false)))
+    ∙ sym (rw c.in-Digit.is (rw (sym t.before.is_digit-in-Digit.ensures ∙ t.if-is_digit.false)))
 
 pub returns-in-Address : goal.returns-in-Address
 unfolding extend
-returns-in-Address c = c.extend_identifier-in-Address.ensures ∙ sym (rw c.before.before.prefix-in-Address-1.given.1)
+returns-in-Address c = c.extend_identifier-in-Address.ensures ∙ sym (rw c.in-Address.is)
 
 pub returns-in-Identifier : goal.returns-in-Identifier
 unfolding extend
-returns-in-Identifier c = c.extend_body.ensures ∙ sym (rw c.before.before.prefix-in-Identifier-1.given.1)
+returns-in-Identifier c = c.extend_body.ensures ∙ sym (rw c.in-Identifier.is)
 
 pub returns-in-Digits : goal.returns-in-Digits
 unfolding extend
 returns-in-Digits c =
     let r = c.before in
-    c.extend_data.ensures ∙ ap (extend_data _ _ _) r.read_next.ensures ∙ sym (rw r.before.before.prefix-in-Digits-1.given.1)
+    c.extend_data.ensures ∙ ap (extend_data _ _ _) r.read_next.ensures ∙ sym (rw c.in-Digits.is)
 
 pub returns-in-Complete : goal.returns-in-Complete
 unfolding extend
-returns-in-Complete c = rw c.enum_told-in-Complete-1.given.1
+returns-in-Complete c = rw c.in-Complete.is
 
 pub returns-in-Wrong : goal.returns-in-Wrong
 unfolding extend
-returns-in-Wrong c = rw c.enum_told-in-Wrong-1.given.1
+returns-in-Wrong c = rw c.in-Wrong.is

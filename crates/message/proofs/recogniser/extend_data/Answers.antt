@@ -6,12 +6,12 @@ use Rattle.message.proofs.recogniser.extend_data.Goals as goal
 
 pub returns-in-Partial : goal.returns-in-Partial
 unfolding extend_data
-returns-in-Partial c = rw c.enum_told-1.given.1
+returns-in-Partial c = rw c.in-Partial.is
 
 pub returns-in-Number : goal.returns-in-Number
 unfolding extend_data
-returns-in-Number c = c.complete.ensures ∙ sym (rw c.before.before.read-1.given.1)
+returns-in-Number c = c.complete.ensures ∙ sym (rw c.in-Number.is)
 
 pub returns-in-Invalid : goal.returns-in-Invalid
 unfolding extend_data
-returns-in-Invalid c = rw c.enum_told-in-Invalid-1.given.1
+returns-in-Invalid c = rw c.in-Invalid.is

@@ -1,7 +1,5 @@
 -- `message::recogniser::is_wrong` meets its contract: the arm taken says which state it is. Assumes nothing.
 use mathlib.Core.Path.{sym}
-use mathlib.Core.List.{[], ◌∷◌}
-use types.Run.{miss}
 use Rattle.refusal.proofs.Logic.{by-test}
 use Rattle.message.specs.Position.{is_wrong}
 use Rattle.message.proofs.Matched.{wrong_is}
@@ -10,12 +8,12 @@ use Rattle.message.proofs.recogniser.is_wrong.Goals as goal
 
 pub returns-in-Wrong : goal.returns-in-Wrong
 unfolding is_wrong
-returns-in-Wrong c = sym (rw c.enum_told-1.given.1)
+returns-in-Wrong c = sym (rw c.in-Wrong.is)
 
--- in the other arm the state is one of the first seven
+-- in the other arm the state is another
 pub returns-in_default : goal.returns-in_default
 returns-in_default c =
     let p = c.before.args.prefix in
     by-test (is_wrong p)
-    (λ t. absurd (miss (0 ∷ 1 ∷ 2 ∷ 3 ∷ 4 ∷ 5 ∷ 6 ∷ []) 7 tt (rw (wrong_is p t) at c.in_default.keys2)))
+    (λ t. absurd (c.in_default.not-Wrong (wrong_is p t)))
     (λ t. sym t)
