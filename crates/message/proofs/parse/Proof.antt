@@ -18,6 +18,7 @@ use Rattle.message.proofs.Places.{all_more, part_all, leads, past_two, last_two,
 use borrow.Author.Rules.{rules}
 use Rattle.message.proofs.parse.Statement.{statement}
 use Rattle.message.proofs.parse.Tie as tie
+use Rattle.message.proofs.parse.Lts.{then-characters-eq5+else-not-is_digit-2, else-characters-eq5, then-is_digit, else-is_digit}
 
 returns : tie.Need-returns-then-characters-lt4
 returns c = sym (too-short _ c.if-characters-lt4.true)
@@ -134,11 +135,11 @@ module _ (j : tie.Joined-characters-eq5) where
   unfolding digit_of
   sign-is =
       elim j.if-characters-eq5.branch [
-        tie.then-characters-eq5 w ↦
+        then-characters-eq5+else-not-is_digit-2 w ↦
           let n = w.if-characters-eq5.true in
           with-these w.address-is w.identifier-is (omega arith)
           (by_two from (sym w.is_digit-then-characters-eq5.ensures ∙ w.if-not-is_digit-2.false) ∙ last_two (Address (l (there from)) (two from)) chars 3 n)
-      | tie.else-characters-eq5 w ↦
+      | else-characters-eq5 w ↦
           let n : length chars ≡ 4 = omega (arith, w.if-characters-eq5.false) in
           with-these w.address-is w.identifier-is (omega arith) (by-four from n ∙ last_two (Address (l (there from)) (one from)) chars 2 n)
       ]
@@ -167,14 +168,14 @@ module _ (j : tie.Joined-is_digit) where
   all = cs (there at-digit)
 
   near : j.if-is_digit.at ≤ 3
-  near = elim j.if-is_digit.branch [ tie.then-is_digit w ↦ omega arith | tie.else-is_digit w ↦ omega arith ]
+  near = elim j.if-is_digit.branch [ then-is_digit w ↦ omega arith | else-is_digit w ↦ omega arith ]
 
   rest-is : leads (Address (l (there at-digit)) j.if-is_digit.address) (drop j.if-is_digit.at all) ≡ parse all
   unfolding digit_of
   rest-is =
       elim j.if-is_digit.branch [
-        tie.then-is_digit w ↦ ap₂ (λ (a k : ℕ). leads (Address (l (there at-digit)) a) (drop k all)) w.address-is w.at-is ∙ sym (by_two at-digit (sym j.before.is_digit-2.ensures ∙ w.if-is_digit.true))
-      | tie.else-is_digit w ↦ ap₂ (λ (a k : ℕ). leads (Address (l (there at-digit)) a) (drop k all)) w.address-is w.at-is ∙ sym (by_one at-digit (sym j.before.is_digit-2.ensures ∙ w.if-is_digit.false))
+        then-is_digit w ↦ ap₂ (λ (a k : ℕ). leads (Address (l (there at-digit)) a) (drop k all)) w.address-is w.at-is ∙ sym (by_two at-digit (sym j.before.is_digit-2.ensures ∙ w.if-is_digit.true))
+      | else-is_digit w ↦ ap₂ (λ (a k : ℕ). leads (Address (l (there at-digit)) a) (drop k all)) w.address-is w.at-is ∙ sym (by_one at-digit (sym j.before.is_digit-2.ensures ∙ w.if-is_digit.false))
       ]
 
 sub-with-data : tie.Need-slice_bounds-with_data-count
