@@ -4,7 +4,6 @@ use lib.ListN.{length}
 use Rattle.message.specs.declared.Kind.{Kind}
 use Rattle.message.specs.Spell.{spell_kind}
 use Rattle.message.proofs.Spelling.{data_kind_length}
-use borrow.Author.Rules.{rules}
 use Rattle.message.proofs.body_len.Goals as goal
 
 pub returns-in-Sign : goal.returns-in-Sign

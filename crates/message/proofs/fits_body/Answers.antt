@@ -1,6 +1,5 @@
 -- `message::fits_body` meets its contract: the arm taken says which body it is. Assumes nothing.
 use Rattle.message.specs.Message.{fits_body}
-use borrow.Author.Rules.{rules}
 use Rattle.message.proofs.fits_body.Goals as goal
 
 pub returns-in-Status : goal.returns-in-Status

@@ -2,7 +2,6 @@
 use mathlib.Core.Path.{◌≡◌, sym, ◌∙◌}
 use mathlib.Core.Bool.{true}
 use Rattle.message.specs.Message.{is_letter, is_address, is_message}
-use borrow.Author.Rules.{rules}
 use Rattle.message.proofs.is_message.Goals as goal
 use Rattle.message.proofs.is_message.Goals.{Else-not-is_letter, Else-not-is_address}
 

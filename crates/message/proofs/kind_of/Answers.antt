@@ -1,7 +1,6 @@
 -- `message::kind_of` meets its contract: the arm taken says which body it is. Assumes nothing.
 use mathlib.Core.Path.{sym}
 use Rattle.message.specs.Spell.{kind_of}
-use borrow.Author.Rules.{rules}
 use Rattle.message.proofs.kind_of.Goals as goal
 
 pub returns-in-Status : goal.returns-in-Status

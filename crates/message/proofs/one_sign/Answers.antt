@@ -9,7 +9,6 @@ use Rattle.message.specs.declared.Parsed.TheVariants.{Unheard}
 use Rattle.message.specs.declared.Prefix.{Prefix}
 use Rattle.message.specs.declared.Prefix.TheVariants.{Digits, Wrong}
 use Rattle.message.specs.Prefix.{extend_body, finish}
-use borrow.Author.Rules.{rules}
 use Rattle.message.proofs.one_sign.Goals as goal
 
 pub returns-then-identifier-eq63 : goal.returns-then-identifier-eq63

@@ -3,7 +3,6 @@
 use mathlib.Core.Path.{◌≡◌, sym, ap, ap₂, ◌∙◌, subst}
 use mathlib.Core.Bool.{true, false}
 use mathlib.Core.List.{List}
-use mathlib.Core.Logic.{⊎_elim}
 use Prim.Native.Nat.{ℕ, ◌+◌, ◌-◌, ◌*◌, ◌≤◌}
 use native.Mathlib.Omega.{arith}
 use lib.ListN.{length, get_or, drop, length-drop}
@@ -135,13 +134,13 @@ module _ (j : tie.Joined-characters-eq5) where
   unfolding digit_of
   sign-is =
       elim j.if-characters-eq5.branch [
-        then-characters-eq5+else-not-is_digit-2 w ↦
-          let n = w.if-characters-eq5.true in
-          with-these w.address-is w.identifier-is (omega arith)
-          (by_two from (sym w.is_digit-then-characters-eq5.ensures ∙ w.if-not-is_digit-2.false) ∙ last_two (Address (l (there from)) (two from)) chars 3 n)
-      | else-characters-eq5 w ↦
-          let n : length chars ≡ 4 = omega (arith, w.if-characters-eq5.false) in
-          with-these w.address-is w.identifier-is (omega arith) (by-four from n ∙ last_two (Address (l (there from)) (one from)) chars 2 n)
+        | then-characters-eq5+else-not-is_digit-2 w ↦
+            let n = w.if-characters-eq5.true in
+            with-these w.address-is w.identifier-is (omega arith)
+            (by_two from (sym w.is_digit-then-characters-eq5.ensures ∙ w.if-not-is_digit-2.false) ∙ last_two (Address (l (there from)) (two from)) chars 3 n)
+        | else-characters-eq5 w ↦
+            let n : length chars ≡ 4 = omega (arith, w.if-characters-eq5.false) in
+            with-these w.address-is w.identifier-is (omega arith) (by-four from n ∙ last_two (Address (l (there from)) (one from)) chars 2 n)
       ]
 
 returns-5 : tie.Need-returns-then-characters-lt6
@@ -174,8 +173,8 @@ module _ (j : tie.Joined-is_digit) where
   unfolding digit_of
   rest-is =
       elim j.if-is_digit.branch [
-        then-is_digit w ↦ ap₂ (λ (a k : ℕ). leads (Address (l (there at-digit)) a) (drop k all)) w.address-is w.at-is ∙ sym (by_two at-digit (sym j.before.is_digit-2.ensures ∙ w.if-is_digit.true))
-      | else-is_digit w ↦ ap₂ (λ (a k : ℕ). leads (Address (l (there at-digit)) a) (drop k all)) w.address-is w.at-is ∙ sym (by_one at-digit (sym j.before.is_digit-2.ensures ∙ w.if-is_digit.false))
+        | then-is_digit w ↦ ap₂ (λ (a k : ℕ). leads (Address (l (there at-digit)) a) (drop k all)) w.address-is w.at-is ∙ sym (by_two at-digit (sym j.before.is_digit-2.ensures ∙ w.if-is_digit.true))
+        | else-is_digit w ↦ ap₂ (λ (a k : ℕ). leads (Address (l (there at-digit)) a) (drop k all)) w.address-is w.at-is ∙ sym (by_one at-digit (sym j.before.is_digit-2.ensures ∙ w.if-is_digit.false))
       ]
 
 sub-with-data : tie.Need-slice_bounds-with_data-count

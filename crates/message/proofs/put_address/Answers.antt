@@ -1,10 +1,9 @@
 -- `message::put_address` meets its contract: one digit or two, by the definition's test. Assumes nothing.
 use mathlib.Core.Path.{sym, ◌∙◌}
 use borrow.Author.Tests.{le-leb, lt-leb}
-use Rattle.wire.specs.Inner.{put, puts}
+use Rattle.wire.specs.Inner.{puts}
 use Rattle.number.specs.Data.{digit}
 use Rattle.message.specs.Spell.{spell_address}
-use borrow.Author.Rules.{rules}
 use Rattle.message.proofs.put_address.Goals as goal
 
 pub returns-then-address-le9 : goal.returns-then-address-le9

@@ -7,7 +7,6 @@ use Rattle.number.specs.Data.{spell_numeral}
 use Rattle.number.proofs.Digits.{numeral_length}
 use Rattle.message.proofs.Places.{five_are}
 use Rattle.message.proofs.Spelling.{puts_five}
-use borrow.Author.Rules.{rules}
 use Rattle.message.proofs.put_data.Goals as goal
 
 pub returns-then-len-gt6 : goal.returns-then-len-gt6

@@ -1,7 +1,6 @@
 -- `message::spelled_len` meets its contract: letter, identifier and `*` stand beside the address and the body. Assumes nothing.
 use native.Mathlib.Omega.{arith}
 use Rattle.message.proofs.Spelling.{address_length, body_length, spell_parts}
-use borrow.Author.Rules.{rules}
 use Rattle.message.proofs.spelled_len.Goals as goal
 
 pub overflow_add-result : goal.overflow_add-result

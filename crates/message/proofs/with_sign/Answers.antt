@@ -7,7 +7,6 @@ use Rattle.message.specs.Message.{is_address}
 use Rattle.message.specs.declared.Prefix.{Prefix}
 use Rattle.message.specs.Prefix.{extend, extend_all, finish}
 use Rattle.message.proofs.Places.{no_identifier, identifier}
-use borrow.Author.Rules.{rules}
 use Rattle.message.proofs.with_sign.Goals as goal
 use Rattle.message.proofs.with_sign.Goals.{Else-not-is_address}
 

@@ -9,7 +9,6 @@ use Rattle.wire.specs.Inner.{bytes_of}
 use Rattle.wire.proofs.Lines.{line_bytes}
 use Rattle.message.specs.Spell.{spell}
 use Rattle.message.proofs.Spelling.{write_refused, write_served}
-use borrow.Author.Rules.{rules}
 use Rattle.message.proofs.write.Goals as goal
 
 pub returns-then-not-is_message : goal.returns-then-not-is_message

@@ -3,7 +3,6 @@ use mathlib.Core.Path.{sym, ap, ◌∙◌}
 use Rattle.number.specs.Data.{digit_of}
 use Rattle.number.proofs.Digits.{digit_ends}
 use Rattle.message.specs.Prefix.{extend_data, extend}
-use borrow.Author.Rules.{rules}
 use Rattle.message.proofs.recogniser.extend.Goals as goal
 
 pub returns-then-is_letter : goal.returns-then-is_letter

@@ -6,7 +6,6 @@ use Rattle.number.specs.Data.{digit_of}
 use Rattle.number.proofs.Digits.{digit_ends}
 use Rattle.message.specs.Prefix.{extend_address}
 use Rattle.message.proofs.Messages.{address_above}
-use borrow.Author.Rules.{rules}
 use Rattle.message.proofs.recogniser.extend_address.Goals as goal
 
 pub returns-then-first-gt9 : goal.returns-then-first-gt9

@@ -2,7 +2,6 @@
 use mathlib.Core.Path.{sym, ◌∙◌}
 use borrow.Author.Tests.{eq-eqb, ne_eqb}
 use Rattle.message.specs.Prefix.{extend_body}
-use borrow.Author.Rules.{rules}
 use Rattle.message.proofs.recogniser.extend_body.Goals as goal
 
 pub returns-then-identifier-eq63 : goal.returns-then-identifier-eq63

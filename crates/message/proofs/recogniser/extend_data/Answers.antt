@@ -1,7 +1,6 @@
 -- `message::recogniser::extend_data` meets its contract: the arm taken says what has been read. Assumes nothing.
 use mathlib.Core.Path.{sym, ◌∙◌}
 use Rattle.message.specs.Prefix.{extend_data}
-use borrow.Author.Rules.{rules}
 use Rattle.message.proofs.recogniser.extend_data.Goals as goal
 
 pub returns-in-Partial : goal.returns-in-Partial

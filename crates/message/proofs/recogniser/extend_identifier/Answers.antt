@@ -2,7 +2,6 @@
 use mathlib.Core.Path.{sym, ap₂, ◌∙◌}
 use mathlib.Core.Bool.{◌&&◌}
 use Rattle.message.specs.Prefix.{extend_identifier}
-use borrow.Author.Rules.{rules}
 use Rattle.message.proofs.recogniser.extend_identifier.Goals as goal
 
 pub returns-then-is_address-is_identifier : goal.returns-then-is_address-is_identifier

@@ -3,7 +3,6 @@ use mathlib.Core.Path.{sym}
 use Rattle.refusal.proofs.Logic.{by-test}
 use Rattle.message.specs.Position.{is_wrong}
 use Rattle.message.proofs.Matched.{wrong_is}
-use borrow.Author.Rules.{rules}
 use Rattle.message.proofs.recogniser.is_wrong.Goals as goal
 
 pub returns-in-Wrong : goal.returns-in-Wrong
