@@ -3,9 +3,7 @@ use mathlib.Core.Path.{◌≡◌, refl, sym, ap, ◌∙◌}
 use mathlib.Core.Bool.{true, false}
 use mathlib.Core.List.{List}
 use borrow.Author.Rules.{rules}
-use Prim.Native.Nat.{◌+◌}
 use lib.IntN.{ℤ}
-use lib.ListN.{length, get_or}
 use Rattle.sheet.specs.declared.Entry.TheVariants.{Found, Missing}
 use Rattle.sheet.specs.Inner.{whole_row, entry_by, entry_at, part_at}
 use Rattle.sheet.specs.Values.{numbers_of}
