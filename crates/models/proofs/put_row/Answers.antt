@@ -13,7 +13,7 @@ use Rattle.sheet.specs.Sheet.{at}
 use Rattle.models.proofs.put_row.Goals as goal
 
 pub loop-k-init : goal.loop-k-init
-loop-k-init c = (omega arith, refl, paste-zero c.args.sheet.now c.args.at c.args.t3)
+loop-k-init c = (omega arith, refl, paste-zero c.args.sheet.now c.args.at c.args.line)
 
 pub overflow_add-place : goal.overflow_add-place
 overflow_add-place c = omega arith
@@ -41,13 +41,13 @@ loop-k-preserved c =
     let s = c.before.before.before in
     let a = s.args in
     let l = c.before.before.loop-k in
-    let seven : length a.t3 ≡ 7 = search rules in (
+    let seven : length a.line ≡ 7 = search rules in (
       omega arith,
       simp length-set l.invariant.1,
-      ap (λ (z : ℤ). set l.sheet-1 (a.at + l.k) z) (rd-is {z = at a.t3 l.k} (record { sfits = c.sheet-1.given }))
-          ∙ ap (λ (d : List ℤ). set d (a.at + l.k) (at a.t3 l.k)) l.invariant.2
-          ∙ paste-suc a.sheet.now a.at a.t3 l.k (pos 0) (omega arith) (omega arith)
-          ∙ ap (λ (m : ℕ). paste a.sheet.now a.at a.t3 m) (sym (add-one l.k)),
+      ap (λ (z : ℤ). set l.sheet (a.at + l.k) z) (rd-is {z = at a.line l.k} (record { sfits = c.sheet-1.given }))
+          ∙ ap (λ (d : List ℤ). set d (a.at + l.k) (at a.line l.k)) l.invariant.2
+          ∙ paste-suc a.sheet.now a.at a.line l.k (pos 0) (omega arith) (omega arith)
+          ∙ ap (λ (m : ℕ). paste a.sheet.now a.at a.line m) (sym (add-one l.k)),
     )
 
 pub shape_of-sheet : goal.shape_of-sheet
@@ -57,4 +57,4 @@ pub returns : goal.returns
 returns c =
     let a = c.before.before.args in
     let e : c.before.loop-k.k ≡ 6 = omega arith in
-    (c.before.loop-k.invariant.2 ∙ ap (λ (m : ℕ). paste a.sheet.now a.at a.t3 m) e, search rules)
+    (c.before.loop-k.invariant.2 ∙ ap (λ (m : ℕ). paste a.sheet.now a.at a.line m) e, search rules)

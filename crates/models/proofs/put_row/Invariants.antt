@@ -13,7 +13,7 @@ use Rattle.sheet.specs.Sheet.{at}
 use Rattle.models.proofs.put_row.Given as goal
 
 abbrev pub invariant-loop-k : goal.invariant-loop-k
-invariant-loop-k l = (l.k ≤ 6) × (length l.sheet-1 ≡ length l.initial.sheet) × (l.sheet-1 ≡ paste l.initial.sheet l.at l.line l.k)
+invariant-loop-k l = (l.k ≤ 6) × (length l.sheet ≡ length l.initial.sheet) × (l.sheet ≡ paste l.initial.sheet l.at l.line l.k)
 
 abbrev pub decreases-loop-k : goal.decreases-loop-k
 decreases-loop-k l = 6 - l.k

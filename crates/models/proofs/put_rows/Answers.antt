@@ -59,8 +59,8 @@ loop-i-preserved c =
     let l = p.before.before.before.before in
     let a = l.before.args in (
       omega arith,
-      p.put_row.auto.0 ∙ l.loop-i.invariant.1,
-      turned a.table.now l.loop-i.sheet p.put_row.new.0 l.loop-i.i (omega arith) l.loop-i.invariant.1 p.put_row.ensures.1
+      p.put_row.auto.sheet ∙ l.loop-i.invariant.1,
+      turned a.table.now l.loop-i.sheet p.put_row.new.sheet l.loop-i.i (omega arith) l.loop-i.invariant.1 p.put_row.ensures.1
           p.put_row.ensures.0 l.loop-i.invariant.2,
     )
 

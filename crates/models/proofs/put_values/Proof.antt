@@ -111,11 +111,11 @@ loop-again c =
     let l = (turn b).loop-i in
     let value = rd-is {z = at (get_or (table b) (i b) []) 6} (record { sfits = c.values-1.given }) in (
       omega arith,
-      length-set l.values-1 _ _ ∙ l.inv.1,
-      codes-more (table b) (i b) (more b) l.inv.2,
-      l.inv.3
-          ∙ filled_more (table b) (i b) (more b) l.values-1
-          ∙ ap₂ (λ (x v : ℤ). filled (set l.values-1 (nat_abs x) v) (drop (i b + 1) (table b))) (sym (rd-is (read b))) (sym value),
+      length-set l.values _ _ ∙ l.invariant.1,
+      codes-more (table b) (i b) (more b) l.invariant.2,
+      l.invariant.3
+          ∙ filled_more (table b) (i b) (more b) l.values
+          ∙ ap₂ (λ (x v : ℤ). filled (set l.values (nat_abs x) v) (drop (i b + 1) (table b))) (sym (rd-is (read b))) (sym value),
     )
 
 same_length : tie.Need-shape_of-values invariant-loop decreases-loop

@@ -11,7 +11,7 @@ numbers_of-requires c = sound_whole _ (sym c.before.sound_row.ensures ∙ c.if-s
 
 pub returns-then-sound_row : goal.returns-then-sound_row
 unfolding entry_of
-returns-then-sound_row c = ap Found c.Numbers-of.ensures ∙ sym (rw (sym c.before.before.sound_row.ensures ∙ c.before.if-sound_row.true) refl)
+returns-then-sound_row c = ap Found c.numbers_of.ensures ∙ sym (rw (sym c.before.before.sound_row.ensures ∙ c.before.if-sound_row.true) refl)
 
 pub returns-else-sound_row : goal.returns-else-sound_row
 unfolding entry_of

@@ -6,4 +6,4 @@ use Rattle.sheet.proofs.find.Goals as goal
 
 pub returns : goal.returns
 unfolding entry_in
-returns c = c.entry_of.ensures ∙ ap entry_of c.before.find_row-part.ensures.0
+returns c = c.entry_of.ensures ∙ ap entry_of c.before.find_row-part.ensures.numbers

@@ -3,9 +3,7 @@ use mathlib.Core.Path.{◌≡◌, refl, sym, ap, ◌∙◌}
 use mathlib.Core.Bool.{true, false}
 use mathlib.Core.List.{List}
 use borrow.Author.Rules.{rules}
-use Prim.Native.Nat.{◌+◌}
 use lib.IntN.{ℤ}
-use lib.ListN.{length, get_or}
 use Rattle.sheet.specs.declared.Entry.TheVariants.{Found, Missing}
 use Rattle.sheet.specs.Inner.{whole_row, entry_by, entry_at, part_at}
 use Rattle.sheet.specs.Values.{numbers_of}
@@ -13,10 +11,6 @@ use Rattle.sheet.proofs.find_at.Goals as goal
 
 pub numbers_of-requires : goal.numbers_of-requires
 numbers_of-requires c = sym c.before.whole_row.ensures ∙ c.if-whole_row.true
-
-part-is : (p : goal.After-part_at-part)
-    → p.part_at-part.result.now ≡ part_at p.before.before.before.args.bench.now p.before.before.before.args.maker.now (get_or p.before.before.before.args.places.now p.before.before.before.args.identifier (length p.before.before.before.args.bench.now + length p.before.before.before.args.maker.now))
-part-is p = p.part_at-part.ensures ∙ ap (part_at p.before.before.before.args.bench.now p.before.before.before.args.maker.now) p.before.place_at-place.ensures
 
 -- by the test, whatever the part
 found : (r : List ℤ) → whole_row r ≡ true → Found (numbers_of r) ≡ entry_by r
@@ -31,10 +25,10 @@ pub returns-then-whole_row : goal.returns-then-whole_row
 unfolding entry_at
 returns-then-whole_row c =
     let w = c.before.before in
-    ap Found c.Numbers-of.ensures ∙ found _ (sym w.whole_row.ensures ∙ c.before.if-whole_row.true) ∙ ap entry_by (part-is w.before)
+    ap Found c.numbers_of.ensures ∙ found _ (sym w.whole_row.ensures ∙ c.before.if-whole_row.true) ∙ ap entry_by (c.part_at-part.ensures ∙ ap (part_at c.args.bench.now c.args.maker.now) c.place_at-place.ensures)
 
 pub returns-else-whole_row : goal.returns-else-whole_row
 unfolding entry_at
 returns-else-whole_row c =
     let w = c.before in
-    missing _ (sym w.whole_row.ensures ∙ c.if-whole_row.false) ∙ ap entry_by (part-is w.before)
+    missing _ (sym w.whole_row.ensures ∙ c.if-whole_row.false) ∙ ap entry_by (c.part_at-part.ensures ∙ ap (part_at c.args.bench.now c.args.maker.now) c.place_at-place.ensures)

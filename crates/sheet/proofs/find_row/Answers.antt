@@ -37,10 +37,10 @@ returns-then-in_bench-bench c =
     let i = a.identifier in
     let b = a.bench.now in
     let e = p.place_in-in_bench.ensures in
-    let t = has b a.bench.ptr i _ e c.before.if-in_bench-bench.true in (
-      c.six.ensures.0 ∙ its-row b a.bench.ptr i _ e ∙ sym (bench_wins b a.maker.now i t),
-      its-place b a.bench.ptr i _ e c.six.ensures.1 ∙ sym (bench_lies b a.maker.now i a.bench.ptr a.maker.ref_ptr t),
-    )
+    let t = has b a.bench.ref_ptr i _ e c.before.if-in_bench-bench.true in record {
+      numbers = c.six.ensures.numbers ∙ its-row b a.bench.ref_ptr i _ e ∙ sym (bench_wins b a.maker.now i t);
+      lies = its-place b a.bench.ref_ptr i _ e c.six.ensures.lies ∙ sym (bench_lies b a.maker.now i a.bench.ref_ptr a.maker.ref_ptr t);
+    }
 
 pub returns : goal.returns
 returns c =
@@ -51,7 +51,7 @@ returns c =
     let b = a.bench.now in
     let m = a.maker.now in
     let e = c.before.place_in-in_maker.ensures in
-    let t = lacks b a.bench.ptr i _ p.place_in-in_bench.ensures l.if-in_bench-bench.false in (
-      c.six-2.ensures.0 ∙ its-row m a.maker.ptr i _ e ∙ sym (maker_else b m i t),
-      its-place m a.maker.ptr i _ e c.six-2.ensures.1 ∙ sym (maker_lies b m i a.bench.ptr a.maker.ptr t),
-    )
+    let t = lacks b a.bench.ref_ptr i _ p.place_in-in_bench.ensures l.if-in_bench-bench.false in record {
+      numbers = c.six-2.ensures.numbers ∙ its-row m a.maker.ref_ptr i _ e ∙ sym (maker_else b m i t);
+      lies = its-place m a.maker.ref_ptr i _ e c.six-2.ensures.lies ∙ sym (maker_lies b m i a.bench.ref_ptr a.maker.ref_ptr t);
+    }

@@ -5,7 +5,6 @@ use mathlib.Core.List.{List}
 use Prim.Native.Nat.{ℕ, ◌≤◌}
 use native.Mathlib.Omega.{arith}
 use borrow.Author.Rules.{rules}
-use borrow.Author.Tests.{not-true, not-false}
 use lib.Dec.{T, eqb}
 use lib.IntN.{ℤ, pos, nat_abs}
 use lib.Signed.{non_neg}
@@ -38,13 +37,13 @@ returns : tie.Need-returns-then-not-in_range
 unfolding fits_once
 returns c =
     let b = c.before in
-    let o = outside (at (row b) 0) (seen b) b.before.before.before.requires.2 (was b ∙ not-true _ c.if-not-in_range.true) in
+    let o = outside (at (row b) 0) (seen b) b.before.before.before.requires.2 (was b ∙ c.if-not-in_range.true) in
     (sym (rw o.0), sym o.1)
 
 code : (c : tie.Else-not-in_range) → T (non_neg (rd (at (row c.before) 0))) × (nat_abs (rd (at (row c.before) 0)) ≤ 127)
 code c =
     let b = c.before in
-    range-cast (pos 0) (at (row b) 0) (pos 127) refl (was b ∙ not-false _ c.if-not-in_range.false) (record { sfits = b.before.code-1.given })
+    range-cast (pos 0) (at (row b) 0) (pos 127) refl (was b ∙ c.if-not-in_range.false) (record { sfits = b.before.code-1.given })
 
 cast-place : tie.Need-overflow_cast-place
 cast-place c = ((code c).0, record { fits = omega (arith, (code c).1) })
@@ -68,7 +67,7 @@ returns-2 c =
     let b = e.before in
     let a = b.before.before.before.args in
     let values = a.values.now in
-    let i = inside (at (row b) 0) (seen b) b.before.before.before.requires.2 (was b ∙ not-false _ e.if-not-in_range.false) in
+    let i = inside (at (row b) 0) (seen b) b.before.before.before.requires.2 (was b ∙ e.if-not-in_range.false) in
     let value = rd-is {z = at values (nat_abs (rd (at (row b) 0)))} (record { sfits = c.before.value-1.given }) in (
       ap₂ (λ (x y : Bool). x || y)
           (ap (λ (z : ℤ). not (eqb (get_or (seen b) (nat_abs z) 0) 0)) (read b) ∙ i.0)

@@ -46,7 +46,7 @@ loop-i-preserved c =
     let i = l.loop-i.i in
     let n : i + 6 - i ≡ 6 = omega arith in
     more a.sheet.now a.values.now a.seen.now l.loop-i.seen l.loop-i.fits i l.loop-i.invariant _ _ _ (omega arith)
-    (ap (λ (k : ℕ). take k (drop i a.sheet.now)) n) f.fits_once-fit.ensures.0 f.fits_once-fit.ensures.1
+    (ap (λ (k : ℕ). take k (drop i a.sheet.now)) n) f.fits_once-fit.ensures.fits f.fits_once-fit.ensures.seen
 
 pub shape_of-seen : goal.shape_of-seen
 shape_of-seen c = c.before.loop-i.invariant.long
@@ -55,4 +55,5 @@ pub returns : goal.returns
 returns c =
     let l = c.before in
     let a = l.before.before.args in
-    ends a.sheet.now a.values.now a.seen.now l.loop-i.seen l.loop-i.fits l.loop-i.i l.loop-i.invariant (omega arith)
+    let e = ends a.sheet.now a.values.now a.seen.now l.loop-i.seen l.loop-i.fits l.loop-i.i l.loop-i.invariant (omega arith) in
+    record { fits = e.0; seen = e.1 }

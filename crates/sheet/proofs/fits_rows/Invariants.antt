@@ -8,7 +8,7 @@ use Rattle.sheet.proofs.Places.{Passed, starts, more, ends}
 use Rattle.sheet.proofs.fits_rows.Given as goal
 
 abbrev pub invariant-loop-i : goal.invariant-loop-i
-invariant-loop-i l = Passed l.sheet l.values l.initial.seen l.seen-1 l.fits l.i
+invariant-loop-i l = Passed l.sheet l.values l.initial.seen l.seen l.fits l.i
 
 abbrev pub decreases-loop-i : goal.decreases-loop-i
 decreases-loop-i l = length l.sheet - l.i

@@ -11,7 +11,7 @@ use Rattle.sheet.proofs.lookup.Statement.{statement}
 use Rattle.sheet.proofs.lookup.Tie as tie
 
 -- what the test tells of the two sheets
-was : (c : tie.After-sound_sheet-2) → (sound_sheet c.before.before.args.bench.now && sound_sheet c.before.before.args.maker.now) ≡ (c.before.sound_sheet.result-1 && c.sound_sheet-2.result-1)
+was : (c : tie.After-sound_sheet-2) → (sound_sheet c.before.before.args.bench.now && sound_sheet c.before.before.args.maker.now) ≡ (c.before.sound_sheet.result && c.sound_sheet-2.result)
 was c = simp (c.before.sound_sheet.ensures, c.sound_sheet-2.ensures)
 
 returns : tie.Need-returns-then-sound_sheet

@@ -12,7 +12,7 @@ use Rattle.sheet.proofs.Marks.{Marked, marks, marks_more, marked_all}
 use Rattle.sheet.proofs.mark.Given as goal
 
 abbrev pub invariant-loop-k : goal.invariant-loop-k
-invariant-loop-k l = Marked l.sheet l.base l.initial.places l.places-1 l.k
+invariant-loop-k l = Marked l.sheet l.base l.initial.places l.places l.k
 
 abbrev pub decreases-loop-k : goal.decreases-loop-k
 decreases-loop-k l = l.k

@@ -44,11 +44,11 @@ pub returns-then-at-places : goal.returns-then-at-places
 returns-then-at-places c =
     let s = c.before.before in
     let a = s.args in
-    ap (λ (z : ℤ). set a.places.now (nat_abs z) a.place) (rd-is s.ranges.code) ∙ above a.code a.place a.places.now (not_neg c.before)
+    ap (λ (z : ℤ). set a.places.now (nat_abs z) a.place) (rd-is s.ranges.code) ∙ above a.code a.place a.places.now (simp (rd-is s.ranges.code) at c.before.if-code-lt0.false)
 
 pub returns-else-at-places : goal.returns-else-at-places
 returns-else-at-places c =
     let s = c.before.before in
     let a = s.args in
     sym (set_out a.places.now (nat_abs (rd a.code)) a.place c.if-at-places.false)
-    ∙ ap (λ (z : ℤ). set a.places.now (nat_abs z) a.place) (rd-is s.ranges.code) ∙ above a.code a.place a.places.now (not_neg c.before)
+    ∙ ap (λ (z : ℤ). set a.places.now (nat_abs z) a.place) (rd-is s.ranges.code) ∙ above a.code a.place a.places.now (simp (rd-is s.ranges.code) at c.before.if-code-lt0.false)

@@ -7,8 +7,8 @@ use Rattle.sheet.proofs.part_at.Goals as goal
 
 pub returns-then-place-bench : goal.returns-then-place-bench
 unfolding part_at
-returns-then-place-bench c = c.six.ensures.0 ∙ sym (rw (lt-ltb _ _ c.before.if-place-bench.true) refl)
+returns-then-place-bench c = c.six.ensures.numbers ∙ sym (rw (lt-ltb _ _ c.before.if-place-bench.true) refl)
 
 pub returns : goal.returns
 unfolding part_at
-returns c = c.six-2.ensures.0 ∙ sym (rw (le-ltb _ _ c.before.if-place-bench.false) refl)
+returns c = c.six-2.ensures.numbers ∙ sym (rw (le-ltb _ _ c.before.if-place-bench.false) refl)

@@ -6,7 +6,6 @@ use mathlib.Core.List.{List}
 use Prim.Native.Nat.{ℕ, ◌+◌, ◌-◌, ◌≤◌}
 use native.Mathlib.Omega.{arith}
 use borrow.Author.Rules.{rules}
-use borrow.Author.Tests.{not-true, not-false}
 use lib.IntN.{ℤ, pos}
 use lib.Signed.{lt_z}
 use lib.ListN.{length, drop}
@@ -66,7 +65,7 @@ module _ (c : tie.After-sound_row invariant-loop decreases-loop) where
   i = turn.loop-i.i
 
   abbrev last : ℤ
-  last = to_z w32 turn.loop-i.last
+  last = to_z w32 turn.loop-i.last-bits
 
   -- a whole row is left, the number read is its identifier, and what the test tells of it
   left : i + 6 ≤ length sheet
@@ -83,7 +82,7 @@ module _ (c : tie.After-sound_row invariant-loop decreases-loop) where
 returns-2 : tie.Need-returns-then-not-sound_row-last invariant-loop decreases-loop
 returns-2 c =
     let b = c.before in
-    sym (rows_bad (sheet b) (i b) (last b) (left b) (was b ∙ not-true _ c.if-not-sound_row-last.true))
+    sym (rows_bad (sheet b) (i b) (last b) (left b) (was b ∙ c.if-not-sound_row-last.true))
     ∙ sym (turn b).loop-i.invariant.2
     ∙ sheet_short (sheet b) (turn b).loop-i.invariant.1
 
@@ -96,7 +95,7 @@ loop-again c =
       left b,
       (turn b).loop-i.invariant.1,
       (turn b).loop-i.invariant.2
-          ∙ rows_more (sheet b) (i b) (last b) (left b) (was b ∙ not-false _ c.if-not-sound_row-last.false)
+          ∙ rows_more (sheet b) (i b) (last b) (left b) (was b ∙ c.if-not-sound_row-last.false)
           ∙ ap (λ (x : ℤ). sound_rows x (rows (drop (i b + 6) (sheet b)))) (sym (read b)),
     )
 
@@ -104,7 +103,7 @@ returns-3 : tie.Need-returns invariant-loop decreases-loop
 returns-3 c =
     let l = c.before in
     let s = l.before.before.args.sheet.now in
-    rows_done s l.loop-i.i (to_z w32 l.loop-i.last) (omega arith) (omega arith)
+    rows_done s l.loop-i.i (to_z w32 l.loop-i.last-bits) (omega arith) (omega arith)
     ∙ sym l.loop-i.invariant.2
     ∙ sheet_short s l.loop-i.invariant.1
 

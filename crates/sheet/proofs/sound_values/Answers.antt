@@ -20,5 +20,5 @@ returns c =
     let m = c.before in
     let b = m.before.before.before in
     let a = b.before.before.before.args in
-    ap₂ (λ (x y : Bool). x && y) b.fits_rows-by_bench.ensures.0 (m.fits_rows-by_maker.ensures.0 ∙ ap (fits_rows (rows a.maker.now) a.values.now) b.fits_rows-by_bench.ensures.1)
+    ap₂ (λ (x y : Bool). x && y) b.fits_rows-by_bench.ensures.fits (m.fits_rows-by_maker.ensures.fits ∙ ap (fits_rows (rows a.maker.now) a.values.now) b.fits_rows-by_bench.ensures.seen)
     ∙ values_by_rows a.bench.now a.maker.now a.values.now (omega arith)
