@@ -6,10 +6,8 @@ use Rattle.hearing.proofs.is_opening.Goals as goal
 
 pub returns-in_default : goal.returns-in_default
 unfolding is_opening
-returns-in_default c = sym (ap is_opening (sym c.before.before.receive.ensures ∙ c.enum_told-1.given.1))
+returns-in_default c = sym (ap is_opening (sym c.receive.ensures ∙ c.in_default.is))
 
 pub returns : goal.returns
 unfolding is_opening
-returns c =
-    let k = c.before.before in
-    c.is_letter.ensures ∙ sym (ap is_opening (sym k.before.before.receive.ensures ∙ k.c-1.given.1))
+returns c = c.is_letter.ensures ∙ sym (ap is_opening (sym c.receive.ensures ∙ c.in-Character.is))

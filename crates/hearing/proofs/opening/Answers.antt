@@ -6,12 +6,12 @@ use Rattle.hearing.proofs.opening.Goals as goal
 
 pub returns-in_default : goal.returns-in_default
 unfolding opening
-returns-in_default c = rw c.enum_told-1.given.1
+returns-in_default c = rw c.in_default.is
 
 pub returns-then-is_letter : goal.returns-then-is_letter
 unfolding opening
-returns-then-is_letter c = rw c.before.before.before.received-1.given.1 (rw (sym c.before.is_letter.ensures ∙ c.if-is_letter.true))
+returns-then-is_letter c = rw c.in-Character.is (rw (sym c.is_letter.ensures ∙ c.if-is_letter.true))
 
 pub returns-else-is_letter : goal.returns-else-is_letter
 unfolding opening
-returns-else-is_letter c = rw c.before.before.before.received-1.given.1 (rw (sym c.before.is_letter.ensures ∙ c.if-is_letter.false))
+returns-else-is_letter c = rw c.in-Character.is (rw (sym c.is_letter.ensures ∙ c.if-is_letter.false))

@@ -19,7 +19,7 @@ pub returns-then-not-c : goal.returns-then-not-c
 unfolding plain plain_char
 returns-then-not-c c =
     let l = c.before.before.before in
-    test_fails plain_char 0 l.before.args.chars.now l.loop-i.invariant c.before.before.loop-i-test.true (not-true _ c.if-not-c.true)
+    test_fails plain_char 0 l.before.args.chars.now l.loop-i.invariant c.before.before.loop-i-test.true c.if-not-c.true
 
 pub overflow_add-i : goal.overflow_add-i
 overflow_add-i c = omega arith
@@ -30,7 +30,7 @@ loop-i-smaller c = omega arith
 pub loop-i-preserved : goal.loop-i-preserved
 loop-i-preserved c =
     let l = c.before.before.before in
-    test_passes plain_char 0 l.before.args.chars.now l.loop-i.invariant c.before.before.loop-i-test.true (unfold plain_char in not-false _ c.if-not-c.false)
+    test_passes plain_char 0 l.before.args.chars.now l.loop-i.invariant c.before.before.loop-i-test.true (unfold plain_char in c.if-not-c.false)
 
 pub returns : goal.returns
 unfolding plain plain_char

@@ -18,9 +18,9 @@ position-short n cs = omega (arith, matched_most Start (take n cs), length-take 
 
 pub overflow_cast-result : goal.overflow_cast-result
 overflow_cast-result c =
-    let p = c.before.before.before.args.self in
-    let h : length p.chars-1 ≡ 10 = search rules in
-    record { fits = omega (arith, c.position_in.ensures, position-short p.len p.chars-1) }
+    let p = c.args.self in
+    let h : length p.chars ≡ 10 = search rules in
+    record { fits = omega (arith, c.position_in.ensures, position-short p.len p.chars) }
 
 pub returns : goal.returns
 unfolding open_of

@@ -9,8 +9,8 @@ use Rattle.hearing.proofs.passes.count_of.Goals as goal
 
 pub returns-in_default : goal.returns-in_default
 unfolding worth
-returns-in_default c = rw c.enum_told-1.given.1
+returns-in_default c = rw c.in_default.is
 
 pub returns : goal.returns
 unfolding worth
-returns c = c.spelled_len.ensures ∙ sym (ap (λ (m : Parsed). length (worth m)) c.before.before.message-1.given.1 ∙ travelling_length _)
+returns c = c.spelled_len.ensures ∙ sym (ap (λ (m : Parsed). length (worth m)) c.in-Heard.is ∙ travelling_length _)

@@ -62,7 +62,7 @@ loop-again c =
     let k = e.before in
     let l = at-loop k in
     writing-goes-on (words l) (out₀ l) l.loop-i.out l.loop-i.at l.loop-i.i l.loop-i.invariant k.next_closed-closing.result k.next_closed-closing.ensures e.if-words-star.false
-    p.put-at.new.1.0 p.put-at.result l.before.before.before.requires p.put-at.ensures.0 p.put-at.ensures.1
+    p.put-at.new.out p.put-at.result l.before.before.before.requires p.put-at.ensures.0 p.put-at.ensures.1
 
 same_length : tie.Need-shape_of-out-after-loop-i invariant-loop decreases-loop
 same_length c = c.before.loop-i.invariant.filling.long
