@@ -1,5 +1,4 @@
 -- `division::write_data` meets its contract: the five calls write the five characters of the definition. Assumes nothing.
-use borrow.Author.Rules.{rules}
 use Rattle.number.specs.Data.{five_digits, spell_data}
 use Rattle.number.proofs.Signed.{rd-is}
 use Rattle.division.proofs.write_data.Goals as goal

@@ -2,7 +2,6 @@
 use mathlib.Core.Path.{sym, ap, ◌∙◌}
 use borrow.Author.Tests.{eq-eqb, ne_eqb}
 use Rattle.hearing.specs.Hearing.{opening, continuing}
-use borrow.Author.Rules.{rules}
 use Rattle.hearing.proofs.action_at.Goals as goal
 
 pub returns-then-len-eq0 : goal.returns-then-len-eq0

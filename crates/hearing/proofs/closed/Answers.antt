@@ -3,7 +3,6 @@ use mathlib.Core.Path.{sym, ap, ◌∙◌}
 use native.Mathlib.Omega.{arith}
 use lib.Seq.{length-take-le, take_all}
 use Rattle.message.specs.Prefix.{parse}
-use borrow.Author.Rules.{rules}
 use Rattle.hearing.proofs.closed.Goals as goal
 
 pub returns-then-chars-len : goal.returns-then-chars-len

@@ -1,7 +1,6 @@
 -- `hearing::continuing` meets its contract: the arm taken says what was received. Assumes nothing.
 use borrow.Author.Tests.{eq-eqb, ne_eqb}
 use Rattle.hearing.specs.Hearing.{continuing}
-use borrow.Author.Rules.{rules}
 use Rattle.hearing.proofs.continuing.Goals as goal
 
 pub returns-in_default : goal.returns-in_default

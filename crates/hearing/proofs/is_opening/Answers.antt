@@ -1,7 +1,6 @@
 -- `hearing::is_opening` meets its contract: the arm taken says what was received. Assumes nothing.
 use mathlib.Core.Path.{sym, ap, ◌∙◌}
 use Rattle.hearing.specs.Inner.{is_opening}
-use borrow.Author.Rules.{rules}
 use Rattle.hearing.proofs.is_opening.Goals as goal
 
 pub returns-in_default : goal.returns-in_default

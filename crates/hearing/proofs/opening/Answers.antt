@@ -1,7 +1,6 @@
 -- `hearing::opening` meets its contract: the arm taken says what was received. Assumes nothing.
 use mathlib.Core.Path.{sym, ◌∙◌}
 use Rattle.hearing.specs.Hearing.{opening}
-use borrow.Author.Rules.{rules}
 use Rattle.hearing.proofs.opening.Goals as goal
 
 pub returns-in_default : goal.returns-in_default

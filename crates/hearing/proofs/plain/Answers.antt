@@ -1,11 +1,7 @@
 -- `hearing::plain` meets its contract. The loop's invariant: the characters are plain exactly when those from i on are.
 -- Assumes nothing.
-use mathlib.Core.Bool.{true}
-use borrow.Author.Tests.{not-true, not-false}
-use Prim.Native.Nat.{◌-◌}
 use native.Mathlib.Omega.{arith}
-use lib.ListN.{length}
-use Rattle.refusal.proofs.Lists.{Tested, test_starts, test_passes, test_fails, test_ends}
+use Rattle.refusal.proofs.Lists.{test_starts, test_passes, test_fails, test_ends}
 use Rattle.hearing.specs.Sound.{plain_char, plain}
 use Rattle.hearing.proofs.plain.Goals as goal
 

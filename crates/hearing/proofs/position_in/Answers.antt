@@ -3,7 +3,6 @@ use mathlib.Core.Path.{sym, ap, ◌∙◌}
 use native.Mathlib.Omega.{arith}
 use lib.Seq.{length-take-le, take_all}
 use Rattle.message.specs.Position.{position}
-use borrow.Author.Rules.{rules}
 use Rattle.hearing.proofs.position_in.Goals as goal
 
 pub slice_bounds-position-end : goal.slice_bounds-position-end

@@ -2,13 +2,12 @@
 -- Assumes nothing.
 use mathlib.Core.Path.{◌≡◌, refl, sym, ap, ap₂, ◌∙◌, subst}
 use mathlib.Core.List.{List}
-use Prim.Native.Nat.{ℕ, ◌-◌, ◌≤◌}
+use Prim.Native.Nat.{ℕ, ◌≤◌}
 use native.Mathlib.Omega.{arith}
-use borrow.Author.Rules.{rules}
-use lib.ListN.{length, drop}
+use lib.ListN.{drop}
 use Rattle.hearing.specs.declared.Pending.{Pending}
 use Rattle.hearing.specs.declared.Halt.{Halt}
-use Rattle.hearing.specs.Inner.{Reached, halt_of, to_close, to_letter, to_end}
+use Rattle.hearing.specs.Inner.{Reached, halt_of, to_letter, to_end}
 use Rattle.hearing.proofs.Close.{at_end}
 use Rattle.hearing.proofs.Spans.{Skipped, skipped, opened, Ended, is_ended}
 use Rattle.hearing.proofs.to_close.Goals as goal

@@ -1,16 +1,9 @@
 -- `hearing::to_close` meets its contract. The loop's invariant: what is reached from here is what is reached from the start.
 -- Assumes nothing.
-use mathlib.Core.Path.{◌≡◌, refl, sym, ap, ap₂, ◌∙◌, subst}
-use mathlib.Core.List.{List}
-use Prim.Native.Nat.{ℕ, ◌-◌}
-use native.Mathlib.Omega.{arith}
-use borrow.Author.Rules.{rules}
+use mathlib.Core.Path.{◌≡◌}
+use Prim.Native.Nat.{◌-◌}
 use lib.ListN.{length, drop}
-use Rattle.hearing.specs.declared.Pending.{Pending}
-use Rattle.hearing.specs.declared.Halt.{Halt}
-use Rattle.hearing.specs.Inner.{Reached, halt_of, to_close, to_end}
-use Rattle.hearing.proofs.Close.{at_end}
-use Rattle.hearing.proofs.Spans.{Skipped, skipped, opened, Ended, is_ended}
+use Rattle.hearing.specs.Inner.{to_close}
 use Rattle.hearing.proofs.to_close.Given as goal
 
 abbrev pub invariant-loop-at : goal.invariant-loop-at

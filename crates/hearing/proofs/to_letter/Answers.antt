@@ -1,9 +1,6 @@
 -- `hearing::to_letter` meets its contract. The loop's invariant: the next letter from here is the next from the start. Assumes nothing.
-use mathlib.Core.Path.{◌≡◌, refl, sym, ◌∙◌}
-use Prim.Native.Nat.{◌-◌}
+use mathlib.Core.Path.{refl, sym, ◌∙◌}
 use native.Mathlib.Omega.{arith}
-use lib.ListN.{length, drop}
-use Rattle.hearing.specs.Inner.{to_letter}
 use Rattle.hearing.proofs.Spans.{letter_end, letter_here, letter_on}
 use Rattle.hearing.proofs.to_letter.Goals as goal
 

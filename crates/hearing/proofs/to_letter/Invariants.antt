@@ -1,10 +1,8 @@
 -- `hearing::to_letter` meets its contract. The loop's invariant: the next letter from here is the next from the start. Assumes nothing.
-use mathlib.Core.Path.{◌≡◌, refl, sym, ◌∙◌}
+use mathlib.Core.Path.{◌≡◌}
 use Prim.Native.Nat.{◌-◌}
-use native.Mathlib.Omega.{arith}
 use lib.ListN.{length, drop}
 use Rattle.hearing.specs.Inner.{to_letter}
-use Rattle.hearing.proofs.Spans.{letter_end, letter_here, letter_on}
 use Rattle.hearing.proofs.to_letter.Given as goal
 
 abbrev pub invariant-loop-at : goal.invariant-loop-at

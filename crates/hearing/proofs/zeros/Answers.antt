@@ -1,12 +1,8 @@
 -- `hearing::zeros` meets its contract. The loop's invariant: all are zero exactly when those from i on are.
 -- Assumes nothing.
-use mathlib.Core.Bool.{Bool, true}
 use borrow.Author.Tests.{eq-eqb, ne_eqb}
-use lib.Dec.{eqb}
-use Prim.Native.Nat.{ℕ, ◌-◌}
 use native.Mathlib.Omega.{arith}
-use lib.ListN.{length}
-use Rattle.refusal.proofs.Lists.{Tested, test_starts, test_passes, test_fails, test_ends}
+use Rattle.refusal.proofs.Lists.{test_starts, test_passes, test_fails, test_ends}
 use Rattle.hearing.specs.Sound.{zeros}
 use Rattle.hearing.proofs.zeros.Invariants.{is_zero}
 use Rattle.hearing.proofs.zeros.Goals as goal

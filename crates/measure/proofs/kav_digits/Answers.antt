@@ -1,6 +1,5 @@
 -- `measure::kav_digits` meets its contract: the number that is handed on is the number that was given. Assumes nothing.
 use mathlib.Core.Path.{ap, ◌∙◌}
-use borrow.Author.Rules.{rules}
 use lib.IntN.{ℤ}
 use Rattle.number.specs.Data.{with_decimals, spell_data}
 use Rattle.number.proofs.Signed.{rd-is}

@@ -1,5 +1,4 @@
 -- `models::dcp100_controller` meets its contract: `controller` gives the table, and `put_rows` lays its rows out. Assumes nothing.
-use borrow.Author.Rules.{rules}
 use Rattle.models.proofs.dcp100_controller.Goals as goal
 
 pub returns : goal.returns

@@ -1,7 +1,6 @@
 -- `models::dcp100_controller_values` meets its contract: `controller` gives the table, and `put_values` fills its values in. Assumes nothing.
 use mathlib.Core.Path.{refl}
 use Rattle.models.specs.Table.{filled, values_of}
-use borrow.Author.Rules.{rules}
 use Rattle.models.proofs.Models.{dcp100_controller_sound}
 use Rattle.models.proofs.dcp100_controller_values.Goals as goal
 

@@ -1,5 +1,4 @@
 -- `models::dcp100_programmer` meets its contract: `programmer` gives the table, and `put_rows` lays its rows out. Assumes nothing.
-use borrow.Author.Rules.{rules}
 use Rattle.models.proofs.dcp100_programmer.Goals as goal
 
 pub returns : goal.returns

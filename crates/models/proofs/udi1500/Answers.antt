@@ -1,5 +1,4 @@
 -- `models::udi1500` meets its contract: `indicator` gives the table, and `put_rows` lays its rows out. Assumes nothing.
-use borrow.Author.Rules.{rules}
 use Rattle.models.proofs.udi1500.Goals as goal
 
 pub returns : goal.returns

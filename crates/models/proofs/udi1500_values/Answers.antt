@@ -1,7 +1,6 @@
 -- `models::udi1500_values` meets its contract: `indicator` gives the table, and `put_values` fills its values in. Assumes nothing.
 use mathlib.Core.Path.{refl}
 use Rattle.models.specs.Table.{filled, values_of}
-use borrow.Author.Rules.{rules}
 use Rattle.models.proofs.Models.{udi1500_sound}
 use Rattle.models.proofs.udi1500_values.Goals as goal
 

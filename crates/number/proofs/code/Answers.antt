@@ -1,6 +1,5 @@
 -- `number::code` meets its contract: each arm is the clause of the definition for its sign. Assumes nothing.
 use mathlib.Core.Path.{sym, ap}
-use borrow.Author.Rules.{rules}
 use lib.IntN.{ℤ}
 use Rattle.number.specs.Data.{code_of}
 use Rattle.number.proofs.Signed.{rd-is, below_zero, from_zero}

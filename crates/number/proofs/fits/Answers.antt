@@ -1,5 +1,4 @@
 -- `number::fits` meets its contract: the two tests are those of the definition, of the same magnitude. Assumes nothing.
-use borrow.Author.Rules.{rules}
 use Rattle.number.specs.Data.{fits}
 use Rattle.number.proofs.Signed.{rd_nat_abs}
 use Rattle.number.proofs.fits.Goals as goal

@@ -4,7 +4,6 @@ use mathlib.Core.List.{List}
 use Prim.Native.Nat.{ℕ, ◌+◌, ◌%◌}
 use lib.IntN.{nat_abs}
 use lib.ListN.{set}
-use borrow.Author.Rules.{rules}
 use Rattle.number.specs.Data.{digit, code_of, spell_data, spell_numeral}
 use Rattle.number.proofs.Digits.{other_code}
 use Rattle.number.proofs.write_numeral.Goals as goal

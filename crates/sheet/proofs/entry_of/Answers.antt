@@ -1,6 +1,5 @@
 -- `sheet::entry_of` meets its contract: a sound row is a whole one. Assumes nothing.
 use mathlib.Core.Path.{refl, sym, ap, ◌∙◌}
-use borrow.Author.Rules.{rules}
 use Rattle.sheet.specs.declared.Entry.TheVariants.{Found}
 use Rattle.sheet.specs.Values.{entry_of}
 use Rattle.sheet.proofs.Marks.{sound_whole}

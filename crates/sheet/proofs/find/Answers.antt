@@ -1,7 +1,6 @@
 -- `sheet::find` meets its contract: the part found is read by value. Assumes nothing.
 use mathlib.Core.Path.{ap, ◌∙◌}
 use Rattle.sheet.specs.Values.{entry_of, entry_in}
-use borrow.Author.Rules.{rules}
 use Rattle.sheet.proofs.find.Goals as goal
 
 pub returns : goal.returns

@@ -3,7 +3,6 @@ use Rattle.number.proofs.Signed.{rd-is}
 use borrow.Author.Tests.{eq-eqb, ne_eqb}
 use Rattle.sheet.specs.Sheet.{at}
 use Rattle.sheet.specs.Values.{fits_row, numbers_of, fits_place}
-use borrow.Author.Rules.{rules}
 use Rattle.sheet.proofs.fits_place.Goals as goal
 
 pub returns-then-part-ne6 : goal.returns-then-part-ne6

@@ -1,7 +1,6 @@
 -- `sheet::fits_row` meets its contract: the two tests are the definition's. Assumes nothing.
 use Rattle.number.proofs.Signed.{rd-is}
 use Rattle.sheet.specs.Values.{fits_row}
-use borrow.Author.Rules.{rules}
 use Rattle.sheet.proofs.fits_row.Goals as goal
 
 pub returns : goal.returns

@@ -2,9 +2,9 @@
 use mathlib.Core.Path.{◌≡◌, ap, ◌∙◌}
 use Prim.Native.Nat.{ℕ, ◌+◌, ◌-◌}
 use native.Mathlib.Omega.{arith}
-use lib.ListN.{length, take, drop, length-drop}
+use lib.ListN.{take, drop, length-drop}
 use lib.Seq.{length-take-le}
-use Rattle.sheet.proofs.Places.{Passed, starts, more, ends}
+use Rattle.sheet.proofs.Places.{starts, more, ends}
 use Rattle.sheet.proofs.fits_rows.Goals as goal
 
 pub loop-i-init : goal.loop-i-init

@@ -1,10 +1,7 @@
 -- `sheet::fits_rows` meets its contract. The loop's invariant: all rows before i are passed. Assumes nothing.
-use mathlib.Core.Path.{◌≡◌, ap, ◌∙◌}
-use Prim.Native.Nat.{ℕ, ◌+◌, ◌-◌}
-use native.Mathlib.Omega.{arith}
-use lib.ListN.{length, take, drop, length-drop}
-use lib.Seq.{length-take-le}
-use Rattle.sheet.proofs.Places.{Passed, starts, more, ends}
+use Prim.Native.Nat.{◌-◌}
+use lib.ListN.{length}
+use Rattle.sheet.proofs.Places.{Passed}
 use Rattle.sheet.proofs.fits_rows.Given as goal
 
 abbrev pub invariant-loop-i : goal.invariant-loop-i

@@ -1,6 +1,5 @@
 -- `sheet::has_row` meets its contract: the row's place is before the end. Assumes nothing.
 use Rattle.sheet.specs.Lookup.{has_row}
-use borrow.Author.Rules.{rules}
 use Rattle.sheet.proofs.has_row.Goals as goal
 
 pub returns : goal.returns

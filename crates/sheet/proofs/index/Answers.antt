@@ -1,6 +1,5 @@
 -- `sheet::index` meets its contract: the maker's rows are marked first, and the bench's over them. Assumes nothing.
 use mathlib.Core.Path.{ap, ◌∙◌}
-use borrow.Author.Rules.{rules}
 use Rattle.sheet.specs.Inner.{marked}
 use Rattle.sheet.proofs.Marks.{marked_both}
 use Rattle.sheet.proofs.index.Goals as goal

@@ -1,14 +1,5 @@
 -- `sheet::mark` meets its contract. The loop's invariant: all rows from k on are marked. Assumes nothing.
-use mathlib.Core.Path.{sym, ap, ◌∙◌, subst}
-use mathlib.Core.List.{List}
-use Prim.Native.Nat.{ℕ, ◌+◌, ◌-◌}
-use native.Mathlib.Omega.{arith}
-use borrow.Author.Rules.{rules}
-use lib.IntN.{ℤ}
-use Rattle.number.proofs.Signed.{rd-is}
-use Rattle.sheet.specs.Sheet.{at}
-use Rattle.sheet.specs.Inner.{marked_row}
-use Rattle.sheet.proofs.Marks.{Marked, marks, marks_more, marked_all}
+use Rattle.sheet.proofs.Marks.{Marked}
 use Rattle.sheet.proofs.mark.Given as goal
 
 abbrev pub invariant-loop-k : goal.invariant-loop-k

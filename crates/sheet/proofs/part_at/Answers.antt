@@ -1,6 +1,5 @@
 -- `sheet::part_at` meets its contract: the test is the definition's. Assumes nothing.
 use mathlib.Core.Path.{refl, sym, ◌∙◌}
-use borrow.Author.Rules.{rules}
 use borrow.Author.Tests.{lt-ltb, le-ltb}
 use Rattle.sheet.specs.Inner.{part_at}
 use Rattle.sheet.proofs.part_at.Goals as goal

@@ -1,6 +1,5 @@
 -- `sheet::place_at` meets its contract: within the index the default is not seen. Assumes nothing.
 use mathlib.Core.Path.{sym}
-use borrow.Author.Rules.{rules}
 use lib.ListN.{get_or-eq_default}
 use Rattle.sheet.proofs.Marks.{get_d_within}
 use Rattle.sheet.proofs.place_at.Goals as goal

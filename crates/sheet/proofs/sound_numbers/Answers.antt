@@ -1,7 +1,6 @@
 -- `sheet::sound_numbers` meets its contract: each test is the definition's, and they are joined as there. Assumes nothing.
 use Rattle.number.proofs.Signed.{rd-is}
 use Rattle.sheet.specs.Sheet.{sound_numbers}
-use borrow.Author.Rules.{rules}
 use Rattle.sheet.proofs.sound_numbers.Goals as goal
 
 pub returns : goal.returns

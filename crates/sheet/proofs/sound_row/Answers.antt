@@ -2,7 +2,6 @@
 use borrow.Author.Tests.{eq-eqb, ne_eqb}
 use Rattle.number.proofs.Signed.{rd-is}
 use Rattle.sheet.specs.Sheet.{at, sound_row}
-use borrow.Author.Rules.{rules}
 use Rattle.sheet.proofs.sound_row.Goals as goal
 
 pub returns-then-row-ne6 : goal.returns-then-row-ne6

@@ -7,7 +7,6 @@ use lib.ListN.{length}
 use Rattle.sheet.specs.Sheet.{rows}
 use Rattle.sheet.specs.Inner.{fits_rows}
 use Rattle.sheet.proofs.Places.{values_count, values_by_rows}
-use borrow.Author.Rules.{rules}
 use Rattle.sheet.proofs.sound_values.Goals as goal
 
 pub returns-then-values-ne-CODES : goal.returns-then-values-ne-CODES

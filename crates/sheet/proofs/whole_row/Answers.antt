@@ -1,7 +1,6 @@
 -- `sheet::whole_row` meets its contract: its tests are the definition's. Assumes nothing.
 use mathlib.Core.Path.{refl, sym, ap, ap₂, ◌∙◌}
 use mathlib.Core.Bool.{Bool, ◌&&◌}
-use borrow.Author.Rules.{rules}
 use borrow.Author.Tests.{eq-eqb, ne_eqb}
 use lib.IntN.{ℤ, pos}
 use Rattle.number.specs.Number.{in_range}

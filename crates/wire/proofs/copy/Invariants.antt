@@ -1,9 +1,8 @@
 -- `wire::copy` meets its contract. The loop's invariant: the first k bytes are in their places, and nothing else has changed.
 -- Assumes nothing.
 use Prim.Native.Nat.{◌-◌}
-use native.Mathlib.Omega.{arith}
 use lib.ListN.{length}
-use Rattle.refusal.proofs.Buffers.{Copied, copy_starts, copy_more, copy-ends}
+use Rattle.refusal.proofs.Buffers.{Copied}
 use Rattle.wire.proofs.copy.Given as goal
 
 abbrev pub invariant-loop-k : goal.invariant-loop-k

@@ -1,6 +1,5 @@
 -- `wire::long_of` meets its contract: two words of two bytes each. Assumes nothing.
 use Rattle.wire.specs.Bytes.{long_of}
-use borrow.Author.Rules.{rules}
 use Rattle.wire.proofs.long_of.Goals as goal
 
 pub returns : goal.returns

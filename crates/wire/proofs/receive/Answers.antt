@@ -1,6 +1,5 @@
 -- `wire::receive` meets its contract: each return by the tests that led there. Assumes nothing.
 use mathlib.Core.Path.{sym, ◌∙◌}
-use borrow.Author.Rules.{rules}
 use borrow.Author.Tests.{lt-ltb, le-ltb}
 use Rattle.wire.specs.Word.{received}
 use Rattle.wire.proofs.receive.Goals as goal

@@ -1,12 +1,8 @@
 -- `wire::valid_words` meets its contract. The loop's invariant: the words are valid exactly when those taken were and those from i
 -- on are. Assumes nothing.
-use mathlib.Core.Bool.{Bool}
-use lib.Dec.{leb}
-use Prim.Native.Nat.{ℕ, ◌-◌}
 use native.Mathlib.Omega.{arith}
-use lib.ListN.{length}
 use Rattle.wire.specs.Word.{valid_words}
-use Rattle.refusal.proofs.Lists.{Tested, test_starts, test_more, test_ends}
+use Rattle.refusal.proofs.Lists.{test_starts, test_more, test_ends}
 use Rattle.wire.proofs.valid_words.Invariants.{is_word}
 use Rattle.wire.proofs.valid_words.Goals as goal
 

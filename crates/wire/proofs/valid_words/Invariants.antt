@@ -3,10 +3,8 @@
 use mathlib.Core.Bool.{Bool}
 use lib.Dec.{leb}
 use Prim.Native.Nat.{ℕ, ◌-◌}
-use native.Mathlib.Omega.{arith}
 use lib.ListN.{length}
-use Rattle.wire.specs.Word.{valid_words}
-use Rattle.refusal.proofs.Lists.{Tested, test_starts, test_more, test_ends}
+use Rattle.refusal.proofs.Lists.{Tested}
 use Rattle.wire.proofs.valid_words.Given as goal
 
 abbrev pub is_word : ℕ → Bool

@@ -1,6 +1,5 @@
 -- `hearing::Pending::action` meets its contract: only the count of open characters matters. Assumes nothing.
 use Rattle.hearing.specs.Hearing.{action_of}
-use borrow.Author.Rules.{rules}
 use Rattle.hearing.proofs.Pending.action.Goals as goal
 
 pub returns : goal.returns

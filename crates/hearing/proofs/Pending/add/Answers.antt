@@ -2,7 +2,6 @@
 use mathlib.Core.Path.{sym, ◌∙◌}
 use borrow.Author.Tests.{lt-ltb, le-ltb}
 use Rattle.hearing.specs.Hearing.{added}
-use borrow.Author.Rules.{rules}
 use Rattle.hearing.proofs.Pending.add.Goals as goal
 
 pub returns-then-len-ge-MOST : goal.returns-then-len-ge-MOST

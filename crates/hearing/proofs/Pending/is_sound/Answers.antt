@@ -6,7 +6,7 @@ use Prim.Native.Nat.{ℕ, ◌-◌, ◌≤◌}
 use native.Mathlib.Omega.{arith}
 use borrow.Author.Tests.{le-leb, lt-leb}
 use lib.ListN.{length, take, drop, length-drop}
-use lib.Seq.{length-take-le, take_all}
+use lib.Seq.{take_all}
 use Rattle.hearing.specs.Sound.{plain, zeros, sound_pending}
 use borrow.Author.Rules.{rules}
 use Rattle.hearing.proofs.Pending.is_sound.Goals as goal

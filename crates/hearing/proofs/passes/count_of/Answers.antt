@@ -4,7 +4,6 @@ use lib.ListN.{length}
 use Rattle.wire.proofs.Words.{travelling_length}
 use Rattle.message.specs.declared.Parsed.{Parsed}
 use Rattle.hearing.specs.Inner.{worth}
-use borrow.Author.Rules.{rules}
 use Rattle.hearing.proofs.passes.count_of.Goals as goal
 
 pub returns-in_default : goal.returns-in_default

@@ -1,7 +1,6 @@
 -- `hearing::fits` meets its contract: a normal form is never longer than its recording. Assumes nothing.
 use mathlib.Core.Path.{sym}
 use native.Mathlib.Omega.{arith}
-use borrow.Author.Rules.{rules}
 use borrow.Author.Tests.{le-leb}
 use lib.ListN.{length}
 use Rattle.hearing.specs.Normal.{normal}

@@ -9,7 +9,6 @@ use Rattle.hearing.specs.declared.Halt.{Halt}
 use Rattle.hearing.specs.Hearing.{none, open_of}
 use Rattle.hearing.specs.Inner.{next_closed}
 use Rattle.hearing.proofs.Close.{reached_long}
-use borrow.Author.Rules.{rules}
 use Rattle.hearing.proofs.passes.next_closed.Goals as goal
 
 -- there are ten places

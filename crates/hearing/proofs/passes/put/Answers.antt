@@ -3,7 +3,7 @@ use mathlib.Core.Path.{◌≡◌, sym, ap, ◌∙◌, subst}
 use mathlib.Core.List.{List, []}
 use Prim.Native.Nat.{ℕ, ◌+◌, ◌≤◌}
 use native.Mathlib.Omega.{arith}
-use lib.ListN.{length, take}
+use lib.ListN.{length}
 use lib.Seq.{length-take-le}
 use Rattle.refusal.specs.Buffer.{placed}
 use Rattle.refusal.proofs.Buffers.{placed_nothing}
@@ -15,7 +15,6 @@ use Rattle.message.specs.declared.Parsed.TheVariants.{Heard}
 use Rattle.message.specs.Spell.{spell}
 use Rattle.message.proofs.Spelling.{spell_length}
 use Rattle.hearing.specs.Inner.{worth}
-use borrow.Author.Rules.{rules}
 use Rattle.hearing.proofs.passes.put.Goals as goal
 
 -- what is asked where xs are copied in place of the words

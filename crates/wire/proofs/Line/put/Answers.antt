@@ -1,5 +1,4 @@
 -- `wire::Line::put` meets its contract: each return by the test that led there. Assumes nothing.
-use borrow.Author.Rules.{rules}
 use borrow.Author.Tests.{lt-ltb, le-ltb}
 use Rattle.wire.specs.Inner.{put}
 use Rattle.wire.proofs.Line.put.Goals as goal

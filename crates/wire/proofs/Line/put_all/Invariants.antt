@@ -1,12 +1,9 @@
 -- `wire::Line::put_all` meets its contract. The loop's invariant: what is left to put leads where all of it leads from the start.
 -- Assumes nothing.
-use mathlib.Core.Path.{◌≡◌, refl, sym, ap, ◌∙◌}
-use Prim.Native.Nat.{◌≤◌, ◌+◌, ◌-◌}
-use native.Mathlib.Omega.{arith}
+use mathlib.Core.Path.{◌≡◌}
+use Prim.Native.Nat.{◌≤◌, ◌-◌}
 use lib.ListN.{length, drop}
 use Rattle.wire.specs.Inner.{puts}
-use Rattle.wire.specs.declared.Line.{Line}
-use Rattle.wire.proofs.Lines.{puts_more, puts_done}
 use Rattle.wire.proofs.Line.put_all.Given as goal
 
 abbrev pub invariant-loop-i : goal.invariant-loop-i
