@@ -29,7 +29,7 @@ fn main() {
         println!("cargo::rustc-link-arg={}", archive.display());
         println!("cargo::rustc-cfg=kav_linked");
     } else {
-        assert!(!wanted, "no archive at {}: run `rt staticlib abi` first", archive.display());
+        assert!(!wanted, "no archive at {}: run `tools/build.sh abi` first", archive.display());
     }
 
     println!("cargo::rustc-check-cfg=cfg(kav_measured)");

@@ -1,12 +1,12 @@
 #!/bin/sh
 # Tries the tests themselves: each edit of defects/ makes the reference wrong in one way, in a copy, and the differential tests with the
-# archive have to notice. usage: defects.sh [NAME..]    (`rt staticlib abi` first; KAV_ARCHIVE names another archive; with
+# archive have to notice. usage: defects.sh [NAME..]    (`tools/build.sh abi` first; KAV_ARCHIVE names another archive; with
 # KAV_TEST=shortest it is tests/shortest.rs that has to)
 # Exit status 1 where one isn't noticed, 2 where nothing could be tried.
 set -u
 cd "$(dirname "$0")" || exit 2
 case ${KAV_ARCHIVE:=../target/staticlib/libabi.a} in /*) ;; *) KAV_ARCHIVE=$PWD/$KAV_ARCHIVE ;; esac
-[ -f "$KAV_ARCHIVE" ] || { echo "no archive at $KAV_ARCHIVE: run rt staticlib abi first"; exit 2; }
+[ -f "$KAV_ARCHIVE" ] || { echo "no archive at $KAV_ARCHIVE: run tools/build.sh abi first"; exit 2; }
 work=$(mktemp -d) || exit 2
 trap 'rm -rf "$work"' EXIT
 trap 'exit 2' HUP INT TERM

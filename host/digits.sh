@@ -3,7 +3,7 @@
 # executes for a number. An instruction that multiplies or divides several numbers at once counts as one. Needs `rt`, valgrind and objdump.
 set -eu
 cd "$(dirname "$0")"
-(cd .. && rt staticlib measure >/dev/null)
+(cd .. && tools/build.sh measure >/dev/null)
 cargo build --release --bin digits --target-dir target
 digits=target/release/digits
 kept=$(mktemp -d)

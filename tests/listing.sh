@@ -1,6 +1,6 @@
 #!/bin/sh
 # Runs the proved program `list` on each case of tests/listing and compares what it writes, also through a pipe that gives a few
-# bytes at a time; and tries reads and writes that fail. Build it first: rt check list. The cases: tests/listing/make.py.
+# bytes at a time; and tries reads and writes that fail. Build it first: tools/build.sh list. The cases: tests/listing/make.py.
 # Nothing here looks at the status of a run that fails: it is 0 too (docs/DECISIONS.md, Listing).
 cd "$(dirname "$0")/.." || exit 1
 program=target/bin/list

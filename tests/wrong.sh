@@ -1,6 +1,6 @@
 #!/bin/sh
 # Tries the wrong programs that the gate leaves out: each edit tests/wrong/CRATE/*.edit, of the same form as those of crates/*/must-fail,
-# has to be refused by the prover. `rt must-fail` tries them in a copy of the repository, over the libraries that target/ holds proved.
+# has to be refused by the prover. `rt must-fail` tries them in a copy of the repository.
 # usage: tests/wrong.sh [CRATE..]    a line for each edit: whether it was refused, and the first thing that the prover found wrong
 # Exit status 1 where one was not refused, 2 where nothing could be tried.
 set -u
@@ -9,19 +9,13 @@ cd "$(dirname "$0")/.." || exit 2
 copy=$(mktemp -d) || exit 2
 trap 'rm -rf "$copy"' EXIT
 trap 'exit 2' HUP INT TERM
-mkdir "$copy/target" && cp -R crates crates.txt "$copy" && rm -rf "$copy"/crates/*/must-fail || exit 2
-for part in rlib stamp; do [ ! -d "target/$part" ] || cp -R "target/$part" "$copy/target" || exit 2; done
-
-# Gives the first error of the prover's log, from its place in the crate on.
-first_error() {
-    awk -v crate="$copy/target/must-fail/$1/" '
-        /: error/ || /what antt said/ || /it is not proved that/ {
-            at = index($0, crate)
-            if (at) $0 = substr($0, at + length(crate))
-            print substr($0, 1, 160)
-            exit
-        }' "$copy/target/must-fail/$1/.log" 2> /dev/null
-}
+mkdir "$copy/crates" && cp crates.txt "$copy" || exit 2
+for folder in crates/*; do
+    mkdir "$copy/$folder" || exit 2
+    for part in "$folder"/*; do
+        case ${part##*/} in out | must-fail) ;; *) cp -R "$part" "$copy/$part" || exit 2 ;; esac
+    done
+done
 
 refused=0 failed=0
 for crate; do
@@ -31,14 +25,16 @@ for crate; do
     mkdir "$edits" && cp "tests/wrong/$crate"/*.edit "$edits" || exit 2
     (cd "$copy" && rt must-fail "$crate") > "$copy/said" 2>&1
     for edit in "$edits"/*.edit; do
-        name=$crate/$(basename "$edit" .edit)
-        if [ "$(cat "$copy/target/must-fail/$name.res" 2> /dev/null)" = refused ]; then
+        name=$crate/$(basename "$edit")
+        line=$(grep -m 1 -F "must-fail $name: " "$copy/said")
+        case $line in
+        *": refused, as it must be: "*)
             refused=$((refused + 1))
-            echo "refused      $name: $(first_error "$name")"
-        else
+            echo "refused      ${name%.edit}: $(echo "${line#*as it must be: }" | cut -c 1-160)" ;;
+        *)
             failed=$((failed + 1))
-            echo "NOT REFUSED  $name: $(cat "$copy/target/must-fail/$name.out" 2> /dev/null || tail -n 1 "$copy/said")"
-        fi
+            echo "NOT REFUSED  ${name%.edit}: ${line:-$(tail -n 1 "$copy/said")}" ;;
+        esac
     done
     rm -r "$edits"
 done

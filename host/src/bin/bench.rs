@@ -333,7 +333,7 @@ mod linked {
         if !proved.is_file() || !reference.is_file() {
             println!();
             println!("listing: left out; needs {} (KAV_LIST) and {}", proved.display(), reference.display());
-            println!("         (`rt check list`, `cargo build --release --bins`)");
+            println!("         (`tools/build.sh list`, `cargo build --release --bins`)");
             return;
         }
         println!();

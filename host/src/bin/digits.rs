@@ -10,7 +10,7 @@
 #[cfg(not(kav_measured))]
 fn main() {
     eprintln!(
-        "digits: no archive (../target/staticlib/libmeasure.a: `rt staticlib measure`), nothing to measure"
+        "digits: no archive (../target/staticlib/libmeasure.a: `tools/build.sh measure`), nothing to measure"
     );
     std::process::exit(1);
 }

@@ -42,7 +42,7 @@ mod zeros;
 #[cfg(not(kav_linked))]
 fn main() {
     println!("differential: no archive (../target/staticlib/libabi.a or KAV_ARCHIVE), NOTHING COMPARED");
-    println!("differential: `rt staticlib abi` makes it; feature `archive` makes its absence an error");
+    println!("differential: `tools/build.sh abi` makes it; feature `archive` makes its absence an error");
 }
 
 #[cfg(kav_linked)]
