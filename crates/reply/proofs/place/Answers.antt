@@ -20,8 +20,8 @@ count : (a : Answer) {n : ℕ} → n ≡ length (spell_answer a) → length (tra
 count a e = travelling_length (spell_answer a) ∙ sym e
 
 -- where the front has come, and that there is room for the content and for the end
-rest : (a : Answer) {at n m : ℕ} → n ≡ length (spell_answer a) → m ≡ at + length (spell_front a.letter a.address a.identifier) → m + length (spell_content a.content) + 2 ≡ at + n
-rest a e d = omega (arith, e, d, answer_sum a)
+rest : (a : Answer) (at : ℕ) {n m : ℕ} → n ≡ length (spell_answer a) → m ≡ at + length (spell_front a.letter a.address a.identifier) → m + length (spell_content a.content) + 2 ≡ at + n
+rest a at e d = omega (arith, e, d, answer_sum a)
 
 pub returns-then-out-at : goal.returns-then-out-at
 returns-then-out-at c =
@@ -39,16 +39,16 @@ pub place_front-data-requires : goal.place_front-data-requires
 place_front-data-requires c = omega (arith, c.spelled_len-n.ensures, answer_sum c.args.answer)
 
 pub overflow_add-at : goal.overflow_add-at
-overflow_add-at c = omega (arith, rest c.args.answer c.spelled_len-n.ensures c.place_front-data.ensures.0, c.place_front-data.auto.out)
+overflow_add-at c = omega (arith, rest c.args.answer _ c.spelled_len-n.ensures c.place_front-data.ensures.0, c.place_front-data.auto.out)
 
 pub overflow_sub-at : goal.overflow_sub-at
-overflow_sub-at c = omega (arith, rest c.args.answer c.spelled_len-n.ensures c.place_front-data.ensures.0)
+overflow_sub-at c = omega (arith, rest c.args.answer _ c.spelled_len-n.ensures c.place_front-data.ensures.0)
 
 pub place_two-requires : goal.place_two-requires
-place_two-requires c = omega (arith, rest c.args.answer c.spelled_len-n.ensures c.place_front-data.ensures.0, c.place_front-data.auto.out)
+place_two-requires c = omega (arith, rest c.args.answer _ c.spelled_len-n.ensures c.place_front-data.ensures.0, c.place_front-data.auto.out)
 
 pub place_content-requires : goal.place_content-requires
-place_content-requires c = omega (arith, rest c.args.answer c.spelled_len-n.ensures c.place_front-data.ensures.0, c.place_front-data.auto.out, c.place_two.auto.out)
+place_content-requires c = omega (arith, rest c.args.answer _ c.spelled_len-n.ensures c.place_front-data.ensures.0, c.place_front-data.auto.out, c.place_two.auto.out)
 
 pub returns : goal.returns
 returns c =
@@ -57,7 +57,7 @@ returns c =
     let xs = travelling (spell_answer x) in
     let n = count x c.spelled_len-n.ensures in
     let after = c.place_front-data.new.out in
-    let r = rest x c.spelled_len-n.ensures c.place_front-data.ensures.0 in
+    let r = rest x _ c.spelled_len-n.ensures c.place_front-data.ensures.0 in
     let within : c.place_front-data.result + length (spell_content x.content) + 2 ≤ length after = omega (arith, r, c.place_front-data.auto.out) in
     let h : a.at ≤ length a.out.now = omega arith in
     let end : a.at + c.spelled_len-n.result - 2 ≡ c.place_content.result = omega (arith, r, c.place_content.ensures.0) in

@@ -53,7 +53,12 @@ place_number-second-requires c = omega (arith, c.requires, five-long _ _ _ _ _ c
 pub place_four-requires-in-Five : goal.place_four-requires-in-Five
 place_four-requires-in-Five c =
     omega (
-      arith, c.requires, five-long _ _ _ _ _ c.in-Five.is, c.place_two-first-in-Five.ensures.0, c.place_two-first-in-Five.auto.out, c.place_number-second.ensures.0,
+      arith,
+      c.requires,
+      five-long _ _ _ _ _ c.in-Five.is,
+      c.place_two-first-in-Five.ensures.0,
+      c.place_two-first-in-Five.auto.out,
+      c.place_number-second.ensures.0,
       c.place_number-second.auto.out,
     )
 
