@@ -57,7 +57,7 @@ answer_parts a e = record { is-letter = search ands; is-address = search ands; i
 
 pub parts_answer : (a : Answer) → AnswerParts a → is_answer a ≡ true
 unfolding is_answer
-parts_answer a p = and_both (and_both (and_both p.is-letter p.is_address) p.is-identifier) p.fits-content
+parts_answer a p = and_both (and_both (and_both p.is-letter p.is-address) p.is-identifier) p.fits-content
 
 -- a mark by its character
 accepted : (k : Mark) → eqb (mark_of k) (code "A") ≡ true → k ≡ mark.Accepted
@@ -143,7 +143,7 @@ characters_back (c ∷ cs) h = ap₂ (λ (x : ℕ) (xs : List ℕ). x ∷ xs) (w
 pub answer_small : (a : Answer) → AnswerParts a → Small (spell_answer a)
 answer_small a p =
     rw (star_ends a)
-    (each_append _ (before_star a) (star ∷ []) (plain_small (before_star a) (before_plain a p.is-letter p.is_address p.is-identifier)) (lit< tt, tt))
+    (each_append _ (before_star a) (star ∷ []) (plain_small (before_star a) (before_plain a p.is-letter p.is-address p.is-identifier)) (lit< tt, tt))
 
 -- ---- the guess at what is spelled
 
@@ -225,7 +225,7 @@ guess_spelled a p =
     let rest = a.identifier ∷ (spell_content a.content ++ (mark_of a.mark ∷ star ∷ [])) in
     choice (λ (x : List ℕ). guess (a.letter ∷ (x ++ rest)) ≡ a) (leb a.address 9)
     (λ t. one_digit a.letter a.address a.identifier (spell_content a.content ++ (mark_of a.mark ∷ star ∷ [])) p.is-identifier ∙ behind a.letter a.address a.identifier a.mark a.content p.fits-content)
-    (λ t. two_digits a.letter a.address rest p.is_address ∙ behind a.letter a.address a.identifier a.mark a.content p.fits-content)
+    (λ t. two_digits a.letter a.address rest p.is-address ∙ behind a.letter a.address a.identifier a.mark a.content p.fits-content)
 
 -- ---- the reader
 

@@ -28,7 +28,7 @@ use Rattle.reply.proofs.Reader.{AnswerParts, status_content, four_content, five_
 
 pub behind_plain : (a : Answer) → AnswerParts a → Plain (behind_letter a)
 unfolding before_star
-behind_plain a p = (before_plain a p.is-letter p.is_address p.is-identifier).1
+behind_plain a p = (before_plain a p.is-letter p.is-address p.is-identifier).1
 
 mark_unopening : (k : Mark) → UnopeningChar (mark_of k)
 mark_unopening mark.Accepted = record { is_plain = mark_plain mark.Accepted; no_letter = no_letter_is (code "A") (λ e. omega arith) (λ e. omega arith) }
@@ -72,4 +72,4 @@ module _ (l a i : ℕ) (k : Mark) (p : is_letter l ≡ true) (q : is_address a �
   by_content (Five x y z v w) e = scan (spell_content (Five x y z v w)) (content_digits (Five x y z v w)) (omega (arith, five_length x y z v w)) (five_content i k x y z v w e).is-scan
 
 pub reply_as_nothing : (a : Answer) → AnswerParts a → HeardAsNothing a.letter (behind_letter a)
-reply_as_nothing a p = by_content a.letter a.address a.identifier a.mark p.is-letter p.is_address p.is-identifier a.content p.fits-content
+reply_as_nothing a p = by_content a.letter a.address a.identifier a.mark p.is-letter p.is-address p.is-identifier a.content p.fits-content

@@ -98,7 +98,7 @@ module _ (l a i : ℕ) (x : Numeral) (k : Mark) (p : is_letter l ≡ true) (q : 
       let same : with_minus_zero l a i x k ≡ spell_answer b
       = sym (characters_back (with_minus_zero l a i x k) small) ∙ ap characters_of d.1 ∙ characters_back (spell_answer b) (answer_small b t) in
       no_content x f z (mark_of k) (mark_of b.mark) b.identifier b.mark b.content t.fits-content
-      (behind_address i b.identifier _ _ (identifier_no_digit i r) (identifier_no_digit b.identifier t.is-identifier) a b.address q t.is_address (tail-eq_of_cons-eq same))
+      (behind_address i b.identifier _ _ (identifier_no_digit i r) (identifier_no_digit b.identifier t.is-identifier) a b.address q t.is-address (tail-eq_of_cons-eq same))
 
   pub minus_zero_refused : read_call (travelling (with_minus_zero l a i x k)) ≡ refused 6
   minus_zero_refused =

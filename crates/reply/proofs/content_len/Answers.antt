@@ -9,13 +9,13 @@ use borrow.Author.Rules.{rules}
 use Rattle.reply.proofs.content_len.Goals as goal
 
 pub returns-in-Empty : goal.returns-in-Empty
-returns-in-Empty c = sym (ap (λ (x : Content). length (spell_content x)) c.enum_told-1.given.1 ∙ ap length no_data)
+returns-in-Empty c = sym (ap (λ (x : Content). length (spell_content x)) c.in-Empty.is ∙ ap length no_data)
 
 pub returns-in-Number : goal.returns-in-Number
-returns-in-Number c = sym (ap (λ (x : Content). length (spell_content x)) c.enum_told-in-Number-1.given.1 ∙ ap length (number_data _) ∙ data_length _)
+returns-in-Number c = sym (ap (λ (x : Content). length (spell_content x)) c.in-Number.is ∙ ap length (number_data _) ∙ data_length _)
 
 pub returns-in-Four : goal.returns-in-Four
-returns-in-Four c = sym (ap (λ (x : Content). length (spell_content x)) c.enum_told-in-Four-1.given.1 ∙ four_length _ _ _ _)
+returns-in-Four c = sym (ap (λ (x : Content). length (spell_content x)) c.in-Four.is ∙ four_length _ _ _ _)
 
 pub returns-in-Five : goal.returns-in-Five
-returns-in-Five c = sym (ap (λ (x : Content). length (spell_content x)) c.enum_told-in-Five-1.given.1 ∙ five_length _ _ _ _ _)
+returns-in-Five c = sym (ap (λ (x : Content). length (spell_content x)) c.in-Five.is ∙ five_length _ _ _ _ _)

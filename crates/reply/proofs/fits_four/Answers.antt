@@ -11,8 +11,4 @@ and-true false = refl
 
 pub returns : goal.returns
 unfolding every
-returns c =
-    let n = c.before in
-    let m = n.before in
-    let f = m.before in
-    rw (f.fits-2.ensures, m.fits-3.ensures, n.fits-4.ensures, c.fits5.ensures) (sym (rw and-true))
+returns c = rw (c.fits.ensures, c.fits-2.ensures, c.fits-3.ensures, c.fits-4.ensures) (sym (rw and-true))

@@ -11,21 +11,19 @@ use Rattle.reply.proofs.place_four.Goals as goal
 pub returns : goal.returns
 unfolding spell_all
 returns c =
-    let d = c.before.before in
-    let t = d.before.before.before.before in
-    let b = t.before.before.before.before in
-    let f = b.before.before.before.before in
-    let s = f.before.before.before in
-    let a = s.args in
-    let p = f.place_number-second.ensures in
-    let q = b.place_number-third.ensures in
-    let r = t.place_number-fourth.ensures in
-    let z = d.place_number.ensures in
-    let h₁ : a.at ≤ length a.out.now = omega (arith, s.requires) in
-    let h₂ : f.place_number-second.result ≤ length f.place_number-second.new.1.0 = omega (arith, s.requires, p.0, f.place_number-second.auto) in
-    let h₃ : b.place_number-third.result ≤ length b.place_number-third.new.1.0 = omega (arith, s.requires, p.0, f.place_number-second.auto, q.0, b.place_number-third.auto) in
-    let h₄ : t.place_number-fourth.result ≤ length t.place_number-fourth.new.1.0 = omega (arith, s.requires, p.0, f.place_number-second.auto, q.0, b.place_number-third.auto, r.0, t.place_number-fourth.auto) in
-    let e₄ = stands_both h₄ (stands_from (spell_data a.d) t.place_number-fourth.new.1.0 (data_length a.d) z) (stands_nothing d.place_number.result d.place_number.new.1.0) in
-    let e₃ = stands_both h₃ (stands_from (spell_data a.c) b.place_number-third.new.1.0 (data_length a.c) r) e₄ in
-    let e₂ = stands_both h₂ (stands_from (spell_data a.b) f.place_number-second.new.1.0 (data_length a.b) q) e₃ in
+    let a = c.args in
+    let p = c.place_number-second.ensures in
+    let q = c.place_number-third.ensures in
+    let r = c.place_number-fourth.ensures in
+    let z = c.place_number.ensures in
+    let o₁ = c.place_number-second.new.out in
+    let o₂ = c.place_number-third.new.out in
+    let o₃ = c.place_number-fourth.new.out in
+    let h₁ : a.at ≤ length a.out.now = omega (arith, c.requires) in
+    let h₂ : c.place_number-second.result ≤ length o₁ = omega (arith, c.requires, p.0, c.place_number-second.auto.out) in
+    let h₃ : c.place_number-third.result ≤ length o₂ = omega (arith, c.requires, p.0, c.place_number-second.auto.out, q.0, c.place_number-third.auto.out) in
+    let h₄ : c.place_number-fourth.result ≤ length o₃ = omega (arith, c.requires, p.0, c.place_number-second.auto.out, q.0, c.place_number-third.auto.out, r.0, c.place_number-fourth.auto.out) in
+    let e₄ = stands_both h₄ (stands_from (spell_data a.d) o₃ (data_length a.d) z) (stands_nothing c.place_number.result c.place_number.new.out) in
+    let e₃ = stands_both h₃ (stands_from (spell_data a.c) o₂ (data_length a.c) r) e₄ in
+    let e₂ = stands_both h₂ (stands_from (spell_data a.b) o₁ (data_length a.b) q) e₃ in
     (omega (arith, p.0, q.0, r.0, z.0), (stands_both h₁ (stands_from (spell_data a.a) a.out.now (data_length a.a) p) e₂).leaves)

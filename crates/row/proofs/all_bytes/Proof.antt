@@ -4,11 +4,10 @@ use mathlib.Core.Bool.{true}
 use Prim.Native.Nat.{◌-◌}
 use native.Mathlib.Omega.{arith}
 use borrow.Author.Rules.{rules}
-use borrow.Author.Tests.{not-true, not-false}
 use lib.IntN.{pos}
 use lib.ListN.{length, get_or}
 use Rattle.refusal.proofs.Lists.{Tested, test_starts, test_passes, test_fails, test_ends}
-use Rattle.number-1.proofs.Signed.{rd_ok}
+use Rattle.number.proofs.Signed.{rd_ok}
 use Rattle.row.specs.Row.{is_byte}
 use Rattle.row.proofs.all_bytes.Statement.{statement}
 use Rattle.row.proofs.all_bytes.Tie as tie
@@ -34,7 +33,7 @@ was c = ap is_byte (sym (rd_ok _ c.before.number-1.given)) ∙ sym c.is_byte.ens
 returns : tie.Need-returns-then-not-is_byte invariant-loop decreases-loop
 returns c =
     let l = c.before.before.before.before in
-    test_fails is_byte (pos 0) l.before.args.numbers.now l.loop-i.invariant c.before.before.before.loop-i-test.true (was c.before ∙ not-true _ c.if-not-is_byte.true)
+    test_fails is_byte (pos 0) l.before.args.numbers.now l.loop-i.invariant c.before.before.before.loop-i-test.true (was c.before ∙ c.if-not-is_byte.true)
 
 add-i : tie.Need-overflow_add-i invariant-loop decreases-loop
 add-i c = omega arith
@@ -45,7 +44,7 @@ loop-less c = omega arith
 loop-again : tie.Need-loop-i-preserved invariant-loop decreases-loop
 loop-again c =
     let l = c.before.before.before.before in
-    test_passes is_byte (pos 0) l.before.args.numbers.now l.loop-i.invariant c.before.before.before.loop-i-test.true (was c.before ∙ not-false _ c.if-not-is_byte.false)
+    test_passes is_byte (pos 0) l.before.args.numbers.now l.loop-i.invariant c.before.before.before.loop-i-test.true (was c.before ∙ c.if-not-is_byte.false)
 
 returns-2 : tie.Need-returns invariant-loop decreases-loop
 returns-2 c =

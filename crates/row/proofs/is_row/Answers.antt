@@ -12,8 +12,8 @@ unfolding is_row
 returns-then-row-ne-LENGTH c = sym (rw (ne_eqb _ 23 c.if-row-ne-LENGTH.true))
 
 pub slice_bounds-all_bytes-end : goal.slice_bounds-all_bytes-end
-slice_bounds-all_bytes-end c = sym (length-take-le 13 c.before.before.args.row.now (omega (arith, c.before.if-row-ne-LENGTH.false)))
+slice_bounds-all_bytes-end c = sym (length-take-le 13 c.args.row.now (omega (arith, c.if-row-ne-LENGTH.false)))
 
 pub returns : goal.returns
 unfolding is_row
-returns c = c.all_bytes.ensures ∙ sym (rw (eq-eqb _ 23 c.before.before.if-row-ne-LENGTH.false))
+returns c = c.all_bytes.ensures ∙ sym (rw (eq-eqb _ 23 c.if-row-ne-LENGTH.false))

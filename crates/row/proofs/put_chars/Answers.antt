@@ -12,11 +12,11 @@ use Rattle.hearing.specs.declared.Pending.{Pending}
 use Rattle.row.proofs.put_chars.Goals as goal
 
 -- ten characters are ten numbers
-long : (p : Pending) → length p.chars-1 ≡ 10 → length (map pos p.chars-1) ≡ 10
-long p e = length-map p.chars-1 pos ∙ e
+long : (p : Pending) → length p.chars ≡ 10 → length (map pos p.chars) ≡ 10
+long p e = length-map p.chars pos ∙ e
 
 pub loop-k-init : goal.loop-k-init
-loop-k-init c = copy_starts (map pos c.before.args.pending.chars-1) c.before.args.row.now 3
+loop-k-init c = copy_starts (map pos c.before.args.pending.chars) c.before.args.row.now 3
 
 pub overflow_add-character : goal.overflow_add-character
 overflow_add-character c = omega arith
@@ -37,7 +37,7 @@ pub loop-k-preserved : goal.loop-k-preserved
 loop-k-preserved c =
     let l = c.before.before in
     let s = l.before.before in
-    let chars = s.args.pending.chars-1 in
+    let chars = s.args.pending.chars in
     let w = c.wide-character in
     let k = l.loop-k.k in
     let ten : length (map pos chars) ≡ 10 = long s.args.pending (search rules) in
@@ -52,6 +52,6 @@ pub returns : goal.returns
 returns c =
     let l = c.before in
     let s = l.before.before in
-    let chars = s.args.pending.chars-1 in
+    let chars = s.args.pending.chars in
     let ten : length (map pos chars) ≡ 10 = long s.args.pending (search rules) in
     copy-ends (pos 0) (map pos chars) s.args.row.now 3 l.loop-k.row l.loop-k.k l.loop-k.invariant (omega (arith, s.requires, ten)) (omega (arith, c.loop-k-test.false, ten))

@@ -12,7 +12,7 @@ use Rattle.hearing.specs.declared.Pending.{Pending}
 use Rattle.row.proofs.put_chars.Given as goal
 
 abbrev pub invariant-loop-k : goal.invariant-loop-k
-invariant-loop-k l = Copied (map pos l.chars-1) l.initial.row 3 l.row l.k
+invariant-loop-k l = Copied (map pos l.chars) l.initial.row 3 l.row l.k
 
 abbrev pub decreases-loop-k : goal.decreases-loop-k
 decreases-loop-k l = 10 - l.k

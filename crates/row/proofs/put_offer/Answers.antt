@@ -13,20 +13,13 @@ use Rattle.row.proofs.put_offer.Goals as goal
 
 pub returns-in-Nothing : goal.returns-in-Nothing
 unfolding offer_row
-returns-in-Nothing c =
-    let p = c.before in
-    let t = p.before.before in
-    let row = t.before.before.args.row.now in
-    p.put_numbers.ensures ∙ ap (λ (o : Offer). placed (offer_row o) 13 row) (sym t.enum_told-1.given.1)
+returns-in-Nothing c = c.put_numbers.ensures ∙ ap (λ (o : Offer). placed (offer_row o) 13 c.args.row.now) (sym c.in-Nothing.is)
 
 pub returns-in-Held : goal.returns-in-Held
 unfolding offer_row
 returns-in-Held c =
-    let p = c.before in
-    let w = p.before.before in
-    let o = w.before.before in
-    let row = o.before.before.args.row.now in
-    let f : SFits w32 o.offer-1.given.0.1.0 = record { sfits = w.before.known_told-1.given.1.0.1 } in
-    p.put_numbers-in-Held.ensures
-    ∙ ap₂ (λ (i z : ℤ). placed (pos 1 ∷ i ∷ z ∷ []) 13 row) (rd_ok w.wide.result w.wide.type_inv ∙ w.wide.ensures) (rd-is f)
-    ∙ ap (λ (x : Offer). placed (offer_row x) 13 row) (sym o.offer-1.given.1)
+    let k = c.in-Held in
+    let f : SFits w32 k.value = record { sfits = search rules } in
+    c.put_numbers-in-Held.ensures
+    ∙ ap₂ (λ (i z : ℤ). placed (pos 1 ∷ i ∷ z ∷ []) 13 c.args.row.now) (rd_ok c.wide.result c.wide.type_inv ∙ c.wide.ensures) (rd-is f)
+    ∙ ap (λ (x : Offer). placed (offer_row x) 13 c.args.row.now) (sym k.is)

@@ -14,7 +14,7 @@ pub put_chars-requires : goal.put_chars-requires
 put_chars-requires c = lt-length-set c.before.before.args.row.now _ _ {i = 12} c.before.before.requires
 
 pub shape_of-row : goal.shape_of-row
-shape_of-row c = c.before.put_chars.auto.1.0 ∙ length-set c.before.before.before.before.args.row.now _ _
+shape_of-row c = c.put_chars.auto.row ∙ length-set c.before.before.before.before.args.row.now _ _
 
 pub returns : goal.returns
 returns c =

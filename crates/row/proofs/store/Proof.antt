@@ -2,14 +2,14 @@
 use mathlib.Core.Path.{◌≡◌, sym, ap, ◌∙◌}
 use lib.ListN.{length}
 use Rattle.refusal.specs.Buffer.{placed}
-use Rattle.row-1.specs.Row.{offer_row}
-use Rattle.row-1.proofs.Laws.{stored_parts, stored_short}
+use Rattle.row.specs.Row.{offer_row}
+use Rattle.row.proofs.Laws.{stored_parts, stored_short}
 use borrow.Author.Rules.{rules}
-use Rattle.row-1.proofs.store.Statement.{statement}
-use Rattle.row-1.proofs.store.Tie as tie
+use Rattle.row.proofs.store.Statement.{statement}
+use Rattle.row.proofs.store.Tie as tie
 
 -- by the type of the code
-ten : (s : tie.Start) → length s.args.card.pending-1.chars ≡ 10
+ten : (s : tie.Start) → length s.args.card.pending.chars ≡ 10
 ten s = search rules
 
 returns : tie.Need-returns-then-row-lt-CHANGING_END

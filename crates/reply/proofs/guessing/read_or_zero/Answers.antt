@@ -6,12 +6,12 @@ use Rattle.reply.proofs.guessing.read_or_zero.Goals as goal
 
 pub returns-in-Partial : goal.returns-in-Partial
 unfolding read_or_zero
-returns-in-Partial c = rw c.enum_told-1.given.1
+returns-in-Partial c = rw c.in-Partial.is
 
 pub returns-in-Number : goal.returns-in-Number
 unfolding read_or_zero
-returns-in-Number c = c.as_decimal.ensures ∙ sym (rw c.before.before.read-1.given.1)
+returns-in-Number c = c.as_decimal.ensures ∙ sym (rw c.in-Number.is)
 
 pub returns-in-Invalid : goal.returns-in-Invalid
 unfolding read_or_zero
-returns-in-Invalid c = rw c.enum_told-in-Invalid-1.given.1
+returns-in-Invalid c = rw c.in-Invalid.is
