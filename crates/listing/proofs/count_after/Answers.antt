@@ -5,8 +5,8 @@ use Rattle.listing.proofs.count_after.Goals as goal
 
 pub returns-in_default : goal.returns-in_default
 unfolding count_after
-returns-in_default c = sym (ap (count_after _) c.enum_told-in_default-1.given.1)
+returns-in_default c = sym (ap (count_after _) c.in_default.is)
 
 pub returns : goal.returns
 unfolding count_after next_position
-returns c = c.wrapping_add_u64.ensures ∙ sym (ap (count_after _) c.before.enum_told-1.given.1)
+returns c = c.wrapping_add_u64.ensures.value ∙ sym (ap (count_after _) c.in-Heard.is)

@@ -8,9 +8,7 @@ use Rattle.listing.proofs.last.Goals as goal
 
 pub returns : goal.returns
 returns c =
-    let w = c.before.before in
-    let t = w.before.before.before.before.before in
-    let out = t.before.before.before.args.out.now in
-    w.place.ensures
-    ∙ ap (λ (l : List ℕ). place_call l 0 out) (part_ends _ t.put_last-from.result t.put_last-from.new.0 longest_line t.put_last-from.auto.0 t.put_last-from.ensures)
+    let out = c.args.out.now in
+    c.place.ensures
+    ∙ ap (λ (l : List ℕ). place_call l 0 out) (part_ends _ c.put_last-from.result c.put_last-from.new.text longest_line c.put_last-from.auto.text c.put_last-from.ensures)
     ∙ placed_writes _ out

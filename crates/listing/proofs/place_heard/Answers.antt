@@ -11,17 +11,14 @@ use Rattle.listing.proofs.place_heard.Goals as goal
 pub returns-in_default : goal.returns-in_default
 unfolding line_for
 returns-in_default c =
-    let s = c.before.before.before in
-    let a = s.args in
+    let a = c.args in
     let o = a.out.now in
     (λ j. record { outcome = gave 0; buffer = sym (placed_nothing a.written o) j })
-    ∙ sym (placed_call [] a.written o (fits-at [] a.written o (omega (arith, s.requires))))
-    ∙ ap (λ (x : Parsed). place_call (line_for a.at x) a.written o) (sym c.enum_told-1.given.1)
+    ∙ sym (placed_call [] a.written o (fits-at [] a.written o (omega (arith, c.requires))))
+    ∙ ap (λ (x : Parsed). place_call (line_for a.at x) a.written o) (sym c.in_default.is)
 
 pub returns : goal.returns
 unfolding line_for
 returns c =
-    let p = c.before.before in
-    let k = p.before.before.before in
-    let a = k.before.before.before.args in
-    p.place_line.ensures ∙ ap (λ (x : Parsed). place_call (line_for a.at x) a.written a.out.now) (sym k.parsed-1.given.1)
+    let a = c.args in
+    c.place_line.ensures ∙ ap (λ (x : Parsed). place_call (line_for a.at x) a.written a.out.now) (sym c.in-Heard.is)

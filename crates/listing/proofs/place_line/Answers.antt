@@ -7,8 +7,6 @@ use Rattle.listing.proofs.place_line.Goals as goal
 
 pub returns : goal.returns
 returns c =
-    let w = c.before.before in
-    let t = w.before.before.before.before.before in
-    let a = t.before.before.before.args in
-    w.place.ensures
-    ∙ ap (λ (l : List ℕ). place_call l a.written a.out.now) (part_ends _ t.put_line-from.result t.put_line-from.new.0 longest_line t.put_line-from.auto.0 t.put_line-from.ensures)
+    let a = c.args in
+    c.place.ensures
+    ∙ ap (λ (l : List ℕ). place_call l a.written a.out.now) (part_ends _ c.put_line-from.result c.put_line-from.new.text longest_line c.put_line-from.auto.text c.put_line-from.ensures)

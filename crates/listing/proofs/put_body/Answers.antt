@@ -8,19 +8,11 @@ use Rattle.listing.proofs.put_body.Goals as goal
 
 pub returns-in-Sign : goal.returns-in-Sign
 unfolding kind_and_data
-returns-in-Sign c =
-    let sign = c.before.before in
-    let dash = sign.before.before.before.before in
-    let s = dash.before.before.before.before in
-    as_before (both-before dash.put_all_lem.ensures sign.put.ensures) 7 _ (rw (sym s.before.before.kind_of.ensures ∙ s.c-1.given.1)) (lit≤ tt)
+returns-in-Sign c = as_before (both-before c.put_all-dash.ensures c.put.ensures) 7 _ (rw (sym c.kind_of.ensures ∙ c.in-Sign.is)) (lit≤ tt)
 
 pub returns-in-Data : goal.returns-in-Data
 unfolding kind_and_data
 returns-in-Data c =
-    let hash = c.before.before in
-    let digits = hash.before.before.before.before.before in
-    let d = digits.before.before.before in
-    let s = d.before.before in
-    as_before (both-before digits.put_all-data.ensures hash.put_all.ensures) 7 _
-    (rw (sym s.before.before.kind_of.ensures ∙ s.x-1.given.1) (ap (λ (l : List ℕ). chars "# " ++ l) (sym d.write_numeral-digits.ensures)))
-    (omega (arith, ap length d.write_numeral-digits.ensures, numeral_length s.x-1.given.0.0))
+    as_before (both-before c.put_all-data.ensures c.put_all.ensures) 7 _
+    (rw (sym c.kind_of.ensures ∙ c.in-Data.is) (ap (λ (l : List ℕ). chars "# " ++ l) (sym c.write_numeral-digits.ensures)))
+    (omega (arith, ap length c.write_numeral-digits.ensures, numeral_length c.in-Data.x))

@@ -6,12 +6,12 @@ use Rattle.listing.proofs.put_last.Goals as goal
 
 pub returns-in-End : goal.returns-in-End
 unfolding last_line
-returns-in-End c = rw c.before.before.before.before.before.before.ending-1.given.1 c.before.before.put_numbered.ensures
+returns-in-End c = rw c.in-End.is c.put_numbered.ensures
 
 pub returns-in-Bad : goal.returns-in-Bad
 unfolding last_line
-returns-in-Bad c = rw c.before.before.before.before.before.before.ending-in-Bad-1.given.1 c.before.before.put_numbered-in-Bad.ensures
+returns-in-Bad c = rw c.in-Bad.is c.put_numbered-in-Bad.ensures
 
 pub returns-in-Odd : goal.returns-in-Odd
 unfolding last_line
-returns-in-Odd c = rw c.before.before.before.before.before.enum_told-1.given.1 (ends_with c.before.before.put_all_lem.auto.0 refl c.before.before.put_all_lem.ensures)
+returns-in-Odd c = rw c.in-Odd.is (ends_with c.put_all.auto.text refl c.put_all.ensures)

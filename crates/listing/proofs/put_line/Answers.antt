@@ -8,12 +8,5 @@ use Rattle.listing.proofs.put_line.Goals as goal
 pub returns : goal.returns
 unfolding line
 returns c =
-    let position = c.before.before in
-    let space = position.before.before.before.before in
-    let letter = space.before.before.before.before in
-    let address = letter.before.before.before.before in
-    let request = address.before.before.before.before in
-    ends_with
-    (position.put_decimal.auto.0 ∙ space.put-space.auto.0 ∙ letter.put-letter.auto.0 ∙ address.put_address-address.auto.0 ∙ request.put_request-request.auto.0)
-    refl
-    (both-before (both-before (both-before (both-before request.put_request-request.ensures address.put_address-address.ensures) letter.put-letter.ensures) space.put-space.ensures) position.put_decimal.ensures)
+    ends_with (c.put_decimal.auto.text ∙ c.put-space.auto.text ∙ c.put-letter.auto.text ∙ c.put_address-address.auto.text ∙ c.put_request-request.auto.text) refl
+    (both-before (both-before (both-before (both-before c.put_request-request.ensures c.put_address-address.ensures) c.put-letter.ensures) c.put-space.ensures) c.put_decimal.ensures)

@@ -5,7 +5,5 @@ use Rattle.listing.proofs.put_numbered.Goals as goal
 
 pub returns : goal.returns
 returns c =
-    let a = c.before.before.put_all_lem in
-    let d = c.before.before.before.before.before.before.before.put_decimal-number in
-    let p = c.before.before.before.before.before.before.before.before.before.before.before.put-feed in
-    ends_with (a.auto.0 ∙ d.auto.0 ∙ p.auto.0) refl (both-before (both-before p.ensures d.ensures) a.ensures)
+    ends_with (c.put_all.auto.text ∙ c.put_decimal-number.auto.text ∙ c.put-feed.auto.text) refl
+    (both-before (both-before c.put-feed.ensures c.put_decimal-number.ensures) c.put_all.ensures)
