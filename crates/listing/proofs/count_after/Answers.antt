@@ -1,5 +1,5 @@
 -- `listing::count_after` meets its contract: only what was heard counts. Assumes nothing.
-use Rattle.std.proofs.Common.{sym, ap, ◌∙◌, rules}
+use Rattle.std.proofs.Common.{sym, ap, ◌∙◌}
 use Rattle.listing.specs.Listing.{next_position, count_after}
 use Rattle.listing.proofs.count_after.Goals as goal
 

@@ -1,5 +1,5 @@
 -- `listing::last` meets its contract: the text is the last line, and is written. Assumes nothing.
-use Rattle.std.proofs.Common.{ℕ, List, ap, ◌∙◌, rules}
+use Rattle.std.proofs.Common.{ℕ, List, ap, ◌∙◌}
 use Rattle.refusal.specs.Call.{place_call}
 use Rattle.refusal.proofs.Calls.{placed_writes}
 use Rattle.listing.specs.Inner.{longest_line}

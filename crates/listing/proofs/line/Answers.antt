@@ -1,5 +1,5 @@
 -- `listing::line` meets its contract: number 7 by the test, and otherwise the line is placed at the front. Assumes nothing.
-use Rattle.std.proofs.Common.{sym, ◌∙◌, rules}
+use Rattle.std.proofs.Common.{sym, ◌∙◌}
 use Rattle.refusal.proofs.Calls.{placed_writes}
 use Rattle.listing.proofs.Calls.{line_refused, line_served}
 use Rattle.listing.proofs.line.Goals as goal

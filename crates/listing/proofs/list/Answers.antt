@@ -1,12 +1,12 @@
 -- `listing::list` meets its contract. The loop's invariant: what is written and what is still to come are the whole, what lies behind is
 -- as it was, and the open message has ten places. Assumes nothing.
-use Rattle.std.proofs.Common.{◌≡◌, ℕ, ◌+◌, ◌≤◌, Bool, true, false, List, length, take, sym, refl, ap, ◌∙◌, subst, ap₂, arith, rules}
+use Rattle.std.proofs.Common.{◌≡◌, ℕ, ◌+◌, ◌≤◌, true, false, List, length, take, sym, refl, ap, ◌∙◌, subst, ap₂, arith, rules}
 use borrow.Author.Tests.{not-true, not-false}
 use Rattle.refusal.specs.declared.Refusal.{Refusal}
 use Rattle.refusal.specs.declared.Written.{Written}
 use Rattle.refusal.specs.declared.Written.TheVariants.{Refused, Wrote}
 use Rattle.refusal.specs.Refusal.{number_of, outcome_of}
-use Rattle.refusal.specs.Call.{Call, call_of, place_call}
+use Rattle.refusal.specs.Call.{call_of, place_call}
 use Rattle.refusal.proofs.Calls.{Placed, placed_gave, Unplaced, placed_refused}
 use Rattle.message.specs.declared.Parsed.{Parsed}
 use Rattle.message.specs.Prefix.{parse}

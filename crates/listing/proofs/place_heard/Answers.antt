@@ -1,5 +1,5 @@
 -- `listing::place_heard` meets its contract: what was not heard has no line. Assumes nothing.
-use Rattle.std.proofs.Common.{[], sym, ap, ◌∙◌, arith, rules}
+use Rattle.std.proofs.Common.{[], sym, ap, ◌∙◌, arith}
 use Rattle.refusal.specs.Refusal.{gave}
 use Rattle.refusal.specs.Call.{place_call}
 use Rattle.refusal.proofs.Buffers.{placed_nothing}

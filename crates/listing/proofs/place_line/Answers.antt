@@ -1,5 +1,5 @@
 -- `listing::place_line` meets its contract: the text is the line, and is placed. Assumes nothing.
-use Rattle.std.proofs.Common.{ℕ, List, ap, ◌∙◌, rules}
+use Rattle.std.proofs.Common.{ℕ, List, ap, ◌∙◌}
 use Rattle.refusal.specs.Call.{place_call}
 use Rattle.listing.specs.Inner.{longest_line}
 use Rattle.listing.proofs.Texts.{part_ends}

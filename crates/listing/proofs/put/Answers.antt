@@ -1,6 +1,5 @@
 -- `listing::put` meets its contract: a store just before the text. Assumes nothing.
 use Rattle.listing.proofs.Texts.{one_before}
-use Rattle.std.proofs.Common.{rules}
 use Rattle.listing.proofs.put.Goals as goal
 
 pub returns : goal.returns

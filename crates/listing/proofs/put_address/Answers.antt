@@ -1,5 +1,5 @@
 -- `listing::put_address` meets its contract: one digit or two, by the definition's test. Assumes nothing.
-use Rattle.std.proofs.Common.{lit≤, rules}
+use Rattle.std.proofs.Common.{lit≤}
 use Rattle.message.proofs.Examples.{address_one, address_two}
 use Rattle.listing.proofs.Texts.{as_before, both-before}
 use Rattle.listing.proofs.put_address.Goals as goal

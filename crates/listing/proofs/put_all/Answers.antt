@@ -1,6 +1,5 @@
 -- `listing::put_all` meets its contract: the characters are placed just before the text, where there is room. Assumes nothing.
 use Rattle.listing.proofs.Texts.{all_before}
-use Rattle.std.proofs.Common.{rules}
 use Rattle.listing.proofs.put_all.Goals as goal
 
 pub returns : goal.returns

@@ -1,5 +1,5 @@
 -- `listing::put_body` meets its contract: the arm taken says which kind of body it is. Assumes nothing.
-use Rattle.std.proofs.Common.{ℕ, List, ◌++◌, length, sym, ap, ◌∙◌, arith, lit≤, rules}
+use Rattle.std.proofs.Common.{ℕ, List, ◌++◌, length, sym, ap, ◌∙◌, arith, lit≤}
 use Rattle.wire.specs.Text.{chars}
 use Rattle.number.proofs.Digits.{numeral_length}
 use Rattle.listing.specs.Line.{kind_and_data}

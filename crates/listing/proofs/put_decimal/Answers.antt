@@ -1,7 +1,6 @@
 -- `listing::put_decimal` meets its contract. The loop's invariant: the digits that are still to be put, before those that stand, are
 -- the digits of the number. The measure is the number that is left. Assumes nothing.
-use Rattle.std.proofs.Common.{◌≤◌, length, ◌∙◌, arith}
-use Rattle.listing.specs.Line.{decimal}
+use Rattle.std.proofs.Common.{◌∙◌, arith}
 use Rattle.listing.proofs.Decimals.{putting_starts, putting_room, putting_more, putting_ends, decimal_some}
 use Rattle.listing.proofs.put_decimal.Goals as goal
 

@@ -1,5 +1,5 @@
 -- `listing::put_last` meets its contract: the arm taken says how the listing ends. Assumes nothing.
-use Rattle.std.proofs.Common.{refl, rules}
+use Rattle.std.proofs.Common.{refl}
 use Rattle.listing.specs.Listing.{last_line}
 use Rattle.listing.proofs.Texts.{ends_with}
 use Rattle.listing.proofs.put_last.Goals as goal

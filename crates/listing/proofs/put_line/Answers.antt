@@ -1,6 +1,6 @@
 -- `listing::put_line` meets its contract: the parts of the line are put from the last to the first, and there is room for them.
 -- Assumes nothing.
-use Rattle.std.proofs.Common.{refl, ◌∙◌, rules}
+use Rattle.std.proofs.Common.{refl, ◌∙◌}
 use Rattle.listing.specs.Line.{line}
 use Rattle.listing.proofs.Texts.{both-before, ends_with}
 use Rattle.listing.proofs.put_line.Goals as goal

@@ -1,5 +1,5 @@
 -- `listing::put_numbered` meets its contract: its parts are put from the last to the first. Assumes nothing.
-use Rattle.std.proofs.Common.{refl, ◌∙◌, rules}
+use Rattle.std.proofs.Common.{refl, ◌∙◌}
 use Rattle.listing.proofs.Texts.{both-before, ends_with}
 use Rattle.listing.proofs.put_numbered.Goals as goal
 

@@ -1,6 +1,5 @@
 -- `listing::put_request` meets its contract: its parts are put from the last to the first. Assumes nothing.
 use Rattle.listing.proofs.Texts.{both-before}
-use Rattle.std.proofs.Common.{rules}
 use Rattle.listing.proofs.put_request.Goals as goal
 
 pub returns : goal.returns

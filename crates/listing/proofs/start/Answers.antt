@@ -1,5 +1,5 @@
 -- `listing::start` meets its contract: nothing is open before the first word. Assumes nothing.
-use Rattle.std.proofs.Common.{ap, rules}
+use Rattle.std.proofs.Common.{ap}
 use Rattle.hearing.specs.declared.Pending.{Pending}
 use Rattle.listing.specs.Listing.{start}
 use Rattle.listing.proofs.start.Goals as goal

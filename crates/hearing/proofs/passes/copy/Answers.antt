@@ -11,9 +11,6 @@ loop-k-init c = copy_starts c.args.bytes.now c.args.out.now c.args.at
 pub bounds-bytes-k : goal.bounds-bytes-k
 bounds-bytes-k c = omega arith
 
-pub overflow_cast-out : goal.overflow_cast-out
-overflow_cast-out c = omega (arith, c.shared_slice_known-1.given c.before.before.loop-k.k)
-
 pub overflow_add-out : goal.overflow_add-out
 overflow_add-out c = omega arith
 
