@@ -125,7 +125,7 @@ module _ (bench maker values : List ℤ) (v : sound_values bench maker values �
 
   known : (k : Mark) (x : Content) → fits_content m.identifier k x ≡ true → is_answer (answer_to m k x) ≡ true
   known k x e =
-      parts_answer (answer_to m k x) (record { is-letter = p.is-letter; is-address = p.is_address; is-identifier = p.is-identifier; fits-content = e })
+      parts_answer (answer_to m k x) (record { is-letter = p.is-letter; is-address = p.is-address; is-identifier = p.is-identifier; fits-content = e })
 
   -- every type but the first, on any identifier but `]`
   module _ (q : eqb m.identifier question ≡ false) (u : eqb m.identifier scan_identifier ≡ false) where

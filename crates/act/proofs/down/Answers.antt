@@ -3,23 +3,20 @@ use mathlib.Core.Path.{sym, ap, ap₂, ◌∙◌}
 use Rattle.number.proofs.Signed.{rd-is, rd_ok}
 use Rattle.number.specs.Number.{lowered}
 use Rattle.act.specs.Inner.{declines, moves, down}
+use native.Mathlib.Omega.{arith}
 use borrow.Author.Rules.{rules}
 use Rattle.act.proofs.down.Goals as goal
 
 pub returns-in_default : goal.returns-in_default
 unfolding down
-returns-in_default c =
-    let s = c.before.before.before in
-    c.declines.ensures ∙ ap (declines s.args.message s.args.entry) (rd-is s.ranges.value) ∙ sym (rw c.before.enum_told-1.given.1)
+returns-in_default c = c.declines.ensures ∙ ap (declines c.args.message c.args.entry) (rd-is c.ranges.value) ∙ sym (rw c.in_default.is)
 
 pub returns : goal.returns
 unfolding down
 returns c =
-    let s = c.before.before.before.before.before.before in
-    let e = c.before.before.before.before.entry-1.given in
-    let row = e.0.0 in
-    let next = c.before.lowered in
-    let step = rd-is {z = row.step} (record { sfits = c.before.before.struct_told-1.given.1.1.0.1 }) in
+    let row = c.in-Found.row in
+    let next = c.lowered in
+    let step = rd-is {z = row.step} (record { sfits = omega arith }) in
     c.moves.ensures
-    ∙ ap₂ (moves s.args.message row) (rd-is s.ranges.value) (rd_ok next.result next.type_inv ∙ next.ensures ∙ ap₂ lowered (rd-is s.ranges.value) step)
-    ∙ sym (rw e.1)
+    ∙ ap₂ (moves c.args.message row) (rd-is c.ranges.value) (rd_ok next.result next.type_inv ∙ next.ensures ∙ ap₂ lowered (rd-is c.ranges.value) step)
+    ∙ sym (rw c.in-Found.is)

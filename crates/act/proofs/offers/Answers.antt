@@ -10,6 +10,7 @@ use Rattle.act.specs.declared.Offer.TheVariants.{Held}
 use Rattle.act.specs.declared.Said.TheVariants.{Reply}
 use Rattle.act.specs.declared.Store.TheVariants.{Keep}
 use Rattle.act.specs.Act.{answer_to, offers}
+use native.Mathlib.Omega.{arith}
 use borrow.Author.Rules.{rules}
 use Rattle.act.proofs.offers.Goals as goal
 
@@ -19,7 +20,7 @@ returns c =
     let n = c.before in
     let k = n.before in
     let s = k.before.before in
-    let step = rd-is {z = s.args.row.step} (record { sfits = k.before.struct_told-1.given.1.1.0.1 }) in
+    let step = rd-is {z = s.args.row.step} (record { sfits = omega arith }) in
     let z : rd k.cut-value.result ≡ cut s.args.number s.args.row.step
     = rd_ok k.cut-value.result k.cut-value.type_inv ∙ k.cut-value.ensures ∙ ap₂ cut (rd-is s.ranges.number) step in
     let a : c.answer_to-answer.result ≡ answer_to s.args.message Offered (Number (with_decimals (cut s.args.number s.args.row.step) s.args.row.decimals))

@@ -6,27 +6,25 @@ use mir.Syntax.{w32}
 use mir.Val.{SFits}
 use Rattle.act.specs.Act.{accepts}
 use Rattle.act.specs.Inner.{store}
+use native.Mathlib.Omega.{arith}
 use borrow.Author.Rules.{rules}
 use Rattle.act.proofs.store_offer.Goals as goal
 
 pub returns-in_default : goal.returns-in_default
 unfolding store
-returns-in_default c = c.silent.ensures ∙ sym (rw c.before.enum_told-1.given.1)
+returns-in_default c = c.silent.ensures ∙ sym (rw c.in_default.is)
 
 pub returns-then-identifier-message : goal.returns-then-identifier-message
 unfolding store
 returns-then-identifier-message c =
-    let k = c.before.before.before.before in
-    let o = k.before.offer-1.given in
-    let s = k.before.before.before in
-    let f : SFits w32 o.0.1.0 = record { sfits = k.known_told-1.given.1.0.1 } in
+    let o = c.in-Held in
+    let f : SFits w32 o.value = record { sfits = omega arith } in
     c.accepts.ensures
-    ∙ ap₂ (accepts s.args.message) (rd-is f) c.before.decimals_of.ensures
-    ∙ sym (rw o.1 (rw (eq-eqb o.0.0 s.args.message.identifier c.before.before.if-identifier-message.true)))
+    ∙ ap₂ (accepts c.args.message) (rd-is f) c.decimals_of.ensures
+    ∙ sym (rw o.is (rw (eq-eqb o.identifier c.args.message.identifier c.if-identifier-message.true)))
 
 pub returns-else-identifier-message : goal.returns-else-identifier-message
 unfolding store
 returns-else-identifier-message c =
-    let k = c.before.before.before in
-    let o = k.before.offer-1.given in
-    c.silent-else-identifier-message.ensures ∙ sym (rw o.1 (rw (ne_eqb o.0.0 k.before.before.before.args.message.identifier c.before.if-identifier-message.false)))
+    let o = c.in-Held in
+    c.silent-else-identifier-message.ensures ∙ sym (rw o.is (rw (ne_eqb o.identifier c.args.message.identifier c.if-identifier-message.false)))

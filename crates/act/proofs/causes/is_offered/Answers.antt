@@ -6,8 +6,8 @@ use Rattle.act.proofs.causes.is_offered.Goals as goal
 
 pub returns-in_default : goal.returns-in_default
 unfolding is_offered
-returns-in_default c = sym (rw c.enum_told-1.given.1)
+returns-in_default c = sym (rw c.in_default.is)
 
 pub returns : goal.returns
 unfolding is_offered
-returns c = sym (rw c.before.offer-1.given.1)
+returns c = sym (rw c.in-Held.is)

@@ -7,23 +7,23 @@ use Rattle.act.proofs.causes.takes_zero.Goals as goal
 
 pub returns-in-Status : goal.returns-in-Status
 unfolding takes_zero asks_minus_zero
-returns-in-Status c = sym (rw c.enum_told-1.given.1)
+returns-in-Status c = sym (rw c.in-Status.is)
 
 pub returns-in-Query : goal.returns-in-Query
 unfolding takes_zero asks_minus_zero
-returns-in-Query c = sym (rw c.enum_told-in-Query-1.given.1)
+returns-in-Query c = sym (rw c.in-Query.is)
 
 pub returns-in-Up : goal.returns-in-Up
 unfolding takes_zero asks_minus_zero
-returns-in-Up c = sym (rw c.enum_told-in-Up-1.given.1)
+returns-in-Up c = sym (rw c.in-Up.is)
 
 pub returns-in-Down : goal.returns-in-Down
 unfolding takes_zero asks_minus_zero
-returns-in-Down c = sym (rw c.enum_told-in-Down-1.given.1)
+returns-in-Down c = sym (rw c.in-Down.is)
 
 pub returns-in-Set : goal.returns-in-Set
-returns-in-Set c = c.takes.ensures ∙ ap (takes_zero c.before.before.before.before.args.setup) (sym c.before.before.body-1.given.1)
+returns-in-Set c = c.takes.ensures ∙ ap (takes_zero c.args.setup) (sym c.in-Set.is)
 
 pub returns-in-Store : goal.returns-in-Store
 unfolding takes_zero asks_minus_zero
-returns-in-Store c = sym (rw c.enum_told-in-Store-1.given.1)
+returns-in-Store c = sym (rw c.in-Store.is)

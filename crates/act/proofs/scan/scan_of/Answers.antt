@@ -9,19 +9,11 @@ use Rattle.act.proofs.scan.scan_of.Goals as goal
 pub returns-then-setup-eq4 : goal.returns-then-setup-eq4
 unfolding scan_of
 returns-then-setup-eq4 c =
-    let v₄ = c.before.before in
-    let v₃ = v₄.before in
-    let v₂ = v₃.before in
-    let v₁ = v₂.before in
-    (λ j. Four (v₁.value_of_lem.ensures j) (v₂.value_of-b.ensures j) (v₃.value_of-c.ensures j) (v₄.value_of-d.ensures j))
+    (λ j. Four (c.value_of-a.ensures j) (c.value_of-b.ensures j) (c.value_of-c.ensures j) (c.value_of-d.ensures j))
     ∙ sym (rw (eq-eqb _ 4 c.if-setup-eq4.true))
 
 pub returns : goal.returns
 unfolding scan_of
 returns c =
-    let v₄ = c.before.before.before in
-    let v₃ = v₄.before in
-    let v₂ = v₃.before in
-    let v₁ = v₂.before in
-    (λ j. Five (v₁.value_of_lem.ensures j) (v₂.value_of-b.ensures j) (v₃.value_of-c.ensures j) (v₄.value_of-d.ensures j) (c.value_of-e.ensures j))
-    ∙ sym (rw (ne_eqb _ 4 c.before.if-setup-eq4.false))
+    (λ j. Five (c.value_of-a.ensures j) (c.value_of-b.ensures j) (c.value_of-c.ensures j) (c.value_of-d.ensures j) (c.value_of-e.ensures j))
+    ∙ sym (rw (ne_eqb _ 4 c.if-setup-eq4.false))

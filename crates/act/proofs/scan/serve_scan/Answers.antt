@@ -9,30 +9,28 @@ use Rattle.act.proofs.scan.serve_scan.Goals as goal
 
 pub returns-in-Status : goal.returns-in-Status
 unfolding serve_scan
-returns-in-Status c = c.declines_scan.ensures ∙ sym (rw c.before.enum_told-1.given.1)
+returns-in-Status c = c.declines_scan.ensures ∙ sym (ap (serve_scan c.args.setup c.args.message _) c.in-Status.is)
 
 pub returns-then-setup-eq0 : goal.returns-then-setup-eq0
 unfolding serve_scan
-returns-then-setup-eq0 c = c.declines_scan-then-setup-eq0.ensures ∙ sym (rw c.before.before.before.enum_told-in-Query-1.given.1 (rw (eq-eqb _ 0 c.before.if-setup-eq0.true)))
+returns-then-setup-eq0 c = c.declines_scan-then-setup-eq0.ensures ∙ sym (ap (serve_scan c.args.setup c.args.message _) c.in-Query.is ∙ rw (eq-eqb _ 0 c.if-setup-eq0.true))
 
 pub returns-else-setup-eq0 : goal.returns-else-setup-eq0
 unfolding serve_scan
-returns-else-setup-eq0 c =
-    let s = c.before in
-    c.says.ensures ∙ ap (says _ Accepted) s.scan_of-content.ensures ∙ sym (rw s.before.before.before.enum_told-in-Query-1.given.1 (rw (ne_eqb _ 0 s.before.if-setup-eq0.false)))
+returns-else-setup-eq0 c = c.says.ensures ∙ ap (says _ Accepted) c.scan_of-content.ensures ∙ sym (ap (serve_scan c.args.setup c.args.message _) c.in-Query.is ∙ rw (ne_eqb _ 0 c.if-setup-eq0.false))
 
 pub returns-in-Up : goal.returns-in-Up
 unfolding serve_scan
-returns-in-Up c = c.declines_scan-in-Up.ensures ∙ sym (rw c.before.enum_told-in-Up-1.given.1)
+returns-in-Up c = c.declines_scan-in-Up.ensures ∙ sym (ap (serve_scan c.args.setup c.args.message _) c.in-Up.is)
 
 pub returns-in-Down : goal.returns-in-Down
 unfolding serve_scan
-returns-in-Down c = c.declines_scan-in-Down.ensures ∙ sym (rw c.before.enum_told-in-Down-1.given.1)
+returns-in-Down c = c.declines_scan-in-Down.ensures ∙ sym (ap (serve_scan c.args.setup c.args.message _) c.in-Down.is)
 
 pub returns-in-Set : goal.returns-in-Set
 unfolding serve_scan
-returns-in-Set c = c.declines_scan-in-Set.ensures ∙ sym (rw c.before.enum_told-in-Set-1.given.1)
+returns-in-Set c = c.declines_scan-in-Set.ensures ∙ sym (ap (serve_scan c.args.setup c.args.message _) c.in-Set.is)
 
 pub returns-in-Store : goal.returns-in-Store
 unfolding serve_scan
-returns-in-Store c = c.silent.ensures ∙ sym (rw c.before.enum_told-in-Store-1.given.1)
+returns-in-Store c = c.silent.ensures ∙ sym (ap (serve_scan c.args.setup c.args.message _) c.in-Store.is)
