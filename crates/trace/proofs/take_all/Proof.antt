@@ -168,8 +168,8 @@ module _ (e : tie.Joined-is_scan invariant-loop decreases-loop) where
       let s = (start t).requires in
       let x = at-loop.index-index.ensures in
       elim e.if-is_scan.branch [
-      | then-is_scan w ↦ w.effect-is ∙ w.scan_effect-effect.ensures ∙ scan_leads (bench t) (maker t) i.card.setup i.card.offer i.values _ s.0 s.1 x _ (sym e.is_scan.ensures ∙ w.if-is_scan.true)
-      | else-is_scan w ↦ w.effect-is ∙ w.effect_of-effect.ensures ∙ row_leads (bench t) (maker t) i.card.setup i.card.offer i.values _ s.0 s.1 x _ (sym e.is_scan.ensures ∙ w.if-is_scan.false)
+        | then-is_scan w ↦ w.effect-is ∙ w.scan_effect-effect.ensures ∙ scan_leads (bench t) (maker t) i.card.setup i.card.offer i.values _ s.0 s.1 x _ (sym e.is_scan.ensures ∙ w.if-is_scan.true)
+        | else-is_scan w ↦ w.effect-is ∙ w.effect_of-effect.ensures ∙ row_leads (bench t) (maker t) i.card.setup i.card.offer i.values _ s.0 s.1 x _ (sym e.is_scan.ensures ∙ w.if-is_scan.false)
       ]
 
   is-parsed : parsed e.before ≡ parse (open_of (here at-loop).card.pending)
