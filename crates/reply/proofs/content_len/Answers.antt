@@ -5,7 +5,6 @@ use Rattle.number.proofs.Digits.{data_length}
 use Rattle.reply.specs.declared.Content.{Content}
 use Rattle.reply.specs.Reply.{spell_content}
 use Rattle.reply.proofs.Spelled.{no_data, number_data, four_length, five_length}
-use borrow.Author.Rules.{rules}
 use Rattle.reply.proofs.content_len.Goals as goal
 
 pub returns-in-Empty : goal.returns-in-Empty

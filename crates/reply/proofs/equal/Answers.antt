@@ -1,10 +1,8 @@
 -- `reply::equal` meets its contract. The loop's invariant: the lists are the same exactly when they are from i on. Assumes nothing.
 use mathlib.Core.Path.{sym}
-use Prim.Native.Nat.{◌-◌}
 use native.Mathlib.Omega.{arith}
 use borrow.Author.Tests.{eq-eqb, ne_eqb}
 use lib.Dec.{eqb}
-use lib.ListN.{length}
 use Rattle.refusal.specs.Lists.{same}
 use Rattle.refusal.proofs.Lists as lists
 use Rattle.refusal.proofs.Logic.{by-test}

@@ -1,7 +1,6 @@
 -- `reply::fits_content` meets its contract: the arms taken say what the content is. Assumes nothing.
 use Rattle.refusal.specs.Lists.{every}
 use Rattle.reply.specs.Reply.{fits_content}
-use borrow.Author.Rules.{rules}
 use Rattle.reply.proofs.fits_content.Goals as goal
 
 pub returns-in-Empty : goal.returns-in-Empty

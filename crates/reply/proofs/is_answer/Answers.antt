@@ -1,6 +1,5 @@
 -- `reply::is_answer` meets its contract: the four tests are the definition's. Assumes nothing.
 use Rattle.reply.specs.Reply.{is_answer}
-use borrow.Author.Rules.{rules}
 use Rattle.reply.proofs.is_answer.Goals as goal
 
 pub returns : goal.returns

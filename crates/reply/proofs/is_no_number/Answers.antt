@@ -6,6 +6,4 @@ use Rattle.reply.proofs.is_no_number.Goals as goal
 
 pub returns : goal.returns
 unfolding is_no_number
-returns c =
-    let t = c.before.before in
-    simp (c.before.magnitude.ensures, rd_nat_abs {x = t.before.args.x.number} (record { sfits = t.struct_told-1.given.0.1 }))
+returns c = simp (c.magnitude.ensures, rd_nat_abs {x = c.args.x.number} (record { sfits = search rules }))

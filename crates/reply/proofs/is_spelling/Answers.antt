@@ -7,7 +7,6 @@ use lib.Dec.{eqb}
 use lib.ListN.{length, take}
 use lib.Seq.{length-take-le}
 use Rattle.refusal.specs.Lists.{same}
-use Rattle.wire.specs.Word.{travelling}
 use Rattle.wire.proofs.Words.{travelling_length}
 use Rattle.refusal.specs.declared.Written.{Written}
 use Rattle.refusal.specs.declared.Written.TheVariants.{Wrote}

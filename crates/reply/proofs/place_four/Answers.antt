@@ -5,7 +5,6 @@ use lib.ListN.{length}
 use Rattle.number.specs.Data.{spell_data, spell_all}
 use Rattle.number.proofs.Digits.{data_length}
 use Rattle.reply.proofs.Spelled.{stands_from, stands_nothing, stands_both}
-use borrow.Author.Rules.{rules}
 use Rattle.reply.proofs.place_four.Goals as goal
 
 pub returns : goal.returns

@@ -10,7 +10,6 @@ use Rattle.wire.specs.Word.{with_parity, travelling}
 use Rattle.number.specs.Data.{spell_data}
 use Rattle.number.proofs.Digits.{data_length}
 use Rattle.message.proofs.Places.{five_are}
-use borrow.Author.Rules.{rules}
 use Rattle.reply.proofs.place_number.Goals as goal
 
 -- there is room for five

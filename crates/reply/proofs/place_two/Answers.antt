@@ -6,7 +6,6 @@ use native.Mathlib.Omega.{arith}
 use lib.ListN.{length-set}
 use Rattle.refusal.proofs.Buffers.{placed_sets}
 use Rattle.wire.specs.Word.{with_parity, travelling}
-use borrow.Author.Rules.{rules}
 use Rattle.reply.proofs.place_two.Goals as goal
 
 pub bounds-out-at : goal.bounds-out-at

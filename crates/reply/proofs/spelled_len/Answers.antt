@@ -3,7 +3,6 @@ use mathlib.Core.Path.{ap}
 use native.Mathlib.Omega.{arith}
 use lib.ListN.{length}
 use Rattle.reply.proofs.Spelled.{content_length, front_one, front_two, answer_sum}
-use borrow.Author.Rules.{rules}
 use Rattle.reply.proofs.spelled_len.Goals as goal
 
 pub overflow_add-result : goal.overflow_add-result

@@ -2,7 +2,6 @@
 use mathlib.Core.Path.{ap, ◌∙◌}
 use Rattle.number.proofs.Signed.{rd_ok}
 use Rattle.row.specs.Row.{byte_of}
-use borrow.Author.Rules.{rules}
 use Rattle.row.proofs.byte_at.Goals as goal
 
 pub returns : goal.returns

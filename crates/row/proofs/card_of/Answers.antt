@@ -3,7 +3,6 @@ use mathlib.Core.Path.{◌≡◌, ◌∙◌}
 use Rattle.number.proofs.Signed.{rd_ok}
 use Rattle.sheet.specs.Sheet.{at}
 use Rattle.row.specs.Row.{offer_of, card_of}
-use borrow.Author.Rules.{rules}
 use Rattle.row.proofs.card_of.Goals as goal
 
 pub returns : goal.returns

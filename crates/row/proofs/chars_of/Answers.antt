@@ -1,15 +1,10 @@
 -- `row::chars_of` meets its contract. The loop's invariant: the first k characters are in their places. Assumes nothing.
 use mathlib.Core.Path.{◌≡◌, sym, ◌∙◌}
-use Prim.Native.Nat.{ℕ, ◌-◌}
 use native.Mathlib.Nat.{zero-add}
 use native.Mathlib.Omega.{arith}
-use borrow.Author.Rules.{rules}
-use lib.IntN.{ℤ}
-use mathlib.Core.List.{List}
 use lib.ListN.{get_or, drop}
-use Rattle.refusal.proofs.Buffers.{Copied, copy_starts, copy_more, copy-ends}
+use Rattle.refusal.proofs.Buffers.{copy_starts, copy_more, copy-ends}
 use Rattle.hearing.specs.Hearing.{most}
-use Rattle.row.specs.Row.{bytes_in}
 use Rattle.row.proofs.Laws.{bytes_length, byte_read, placed_whole}
 use Rattle.row.proofs.chars_of.Invariants.{of}
 use Rattle.row.proofs.chars_of.Goals as goal

@@ -4,7 +4,6 @@ use Rattle.number.proofs.Signed.{rd-is}
 use lib.IntN.{ℤ, pos}
 use Rattle.number.specs.Number.{in_range}
 use Rattle.row.specs.Row.{is_byte}
-use borrow.Author.Rules.{rules}
 use Rattle.row.proofs.is_byte.Goals as goal
 
 pub returns : goal.returns

@@ -4,7 +4,6 @@ use native.Mathlib.Omega.{arith}
 use borrow.Author.Tests.{eq-eqb, ne_eqb}
 use lib.Seq.{length-take-le}
 use Rattle.row.specs.Row.{is_row}
-use borrow.Author.Rules.{rules}
 use Rattle.row.proofs.is_row.Goals as goal
 
 pub returns-then-row-ne-LENGTH : goal.returns-then-row-ne-LENGTH

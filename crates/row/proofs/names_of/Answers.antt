@@ -1,7 +1,6 @@
 -- `row::names_of` meets its contract: numbers 17 to 21, each as its byte. Assumes nothing.
 use mathlib.Core.Path.{sym}
 use Rattle.row.proofs.Laws.{scan_bytes}
-use borrow.Author.Rules.{rules}
 use Rattle.row.proofs.names_of.Goals as goal
 
 pub returns : goal.returns

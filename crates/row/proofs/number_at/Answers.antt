@@ -2,7 +2,6 @@
 use mathlib.Core.Path.{sym}
 use lib.IntN.{pos}
 use lib.ListN.{get_or-eq_default}
-use borrow.Author.Rules.{rules}
 use Rattle.row.proofs.number_at.Goals as goal
 
 pub returns-else-k-row : goal.returns-else-k-row

@@ -1,6 +1,5 @@
 -- `row::pending_of` meets its contract: the ten characters and their count. Assumes nothing.
 use Rattle.row.specs.Row.{pending_of}
-use borrow.Author.Rules.{rules}
 use Rattle.row.proofs.pending_of.Goals as goal
 
 pub returns : goal.returns

@@ -4,7 +4,6 @@ use native.Mathlib.Omega.{arith}
 use lib.Seq.{lt-length-set}
 use Rattle.number.proofs.Signed.{rd-is}
 use Rattle.refusal.proofs.Buffers.{placed_sets}
-use borrow.Author.Rules.{rules}
 use Rattle.row.proofs.put_numbers.Goals as goal
 
 pub bounds-row-14 : goal.bounds-row-14

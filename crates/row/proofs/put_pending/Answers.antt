@@ -7,7 +7,6 @@ use lib.Seq.{lt-length-set}
 use Rattle.refusal.specs.Buffer.{placed}
 use Rattle.number.proofs.Signed.{rd_ok}
 use Rattle.row.proofs.Laws.{pending_placed}
-use borrow.Author.Rules.{rules}
 use Rattle.row.proofs.put_pending.Goals as goal
 
 pub put_chars-requires : goal.put_chars-requires

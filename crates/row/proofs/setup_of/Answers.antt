@@ -2,7 +2,6 @@
 use mathlib.Core.Path.{◌∙◌, ap}
 use Rattle.number.proofs.Signed.{rd_ok}
 use Rattle.row.specs.Row.{byte_or, setup_of}
-use borrow.Author.Rules.{rules}
 use Rattle.row.proofs.setup_of.Goals as goal
 
 pub returns : goal.returns

@@ -6,7 +6,6 @@ use lib.ListN.{length-set}
 use Rattle.refusal.proofs.Buffers.{placed_sets}
 use Rattle.act.specs.Cause.{why_of}
 use Rattle.trace.specs.Notes.{five_of}
-use borrow.Author.Rules.{rules}
 use Rattle.trace.proofs.put.Goals as goal
 
 pub bounds-notes-from-2 : goal.bounds-notes-from-2

@@ -1,7 +1,6 @@
 -- `reply::character_at` meets its contract: seven bits of the byte there, or 0. Assumes nothing.
 use mathlib.Core.Path.{sym}
 use Rattle.reply.proofs.Reader.{character_in, character_out}
-use borrow.Author.Rules.{rules}
 use Rattle.reply.proofs.guessing.character_at.Goals as goal
 
 pub returns-then-k-bytes : goal.returns-then-k-bytes

@@ -5,7 +5,6 @@ use native.Mathlib.Omega.{arith}
 use Rattle.number.specs.Data.{read_data}
 use Rattle.reply.specs.Read.{characters_of, read_or_zero, decimal_at}
 use Rattle.reply.proofs.Reader.{characters_long, number_short, five_at}
-use borrow.Author.Rules.{rules}
 use Rattle.reply.proofs.guessing.decimal_at.Goals as goal
 
 pub returns-then-bytes-k : goal.returns-then-bytes-k

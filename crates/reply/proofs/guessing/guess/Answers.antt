@@ -5,7 +5,6 @@ use lib.ListN.{get_or, drop}
 use Rattle.number.specs.Data.{is_digit, digit_of}
 use Rattle.reply.specs.Read.{characters_of, guess_behind}
 use Rattle.reply.proofs.Reader.{guess_one, guess_two}
-use borrow.Author.Rules.{rules}
 use Rattle.reply.proofs.guessing.guess.Goals as goal
 
 pub returns-then-is_digit : goal.returns-then-is_digit

@@ -6,7 +6,6 @@ use native.Mathlib.Nat.{add-zero}
 use lib.ListN.{get_or, drop}
 use Rattle.reply.specs.Read.{characters_of, guess_mark, guess_behind}
 use Rattle.reply.proofs.Reader.{character_behind, behind_status, behind_number}
-use borrow.Author.Rules.{rules}
 use Rattle.reply.proofs.guessing.guess_behind.Goals as goal
 
 identifier : (k : ℕ) (cs : List ℕ) {i : ℕ} → i ≡ get_or cs k 0 → i ≡ get_or (drop k cs) 0 0

@@ -1,6 +1,5 @@
 -- `reply::guess_content` meets its contract: the count of characters says how many numbers there are. Assumes nothing.
 use Rattle.reply.proofs.Reader.{guess_four, guess_five, guess_number}
-use borrow.Author.Rules.{rules}
 use Rattle.reply.proofs.guessing.guess_content.Goals as goal
 
 pub returns-then-bytes-k : goal.returns-then-bytes-k

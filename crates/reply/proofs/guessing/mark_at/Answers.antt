@@ -5,7 +5,6 @@ use native.Mathlib.Omega.{arith}
 use lib.ListN.{length, get_or, drop, length-drop}
 use Rattle.reply.specs.Read.{characters_of}
 use Rattle.reply.proofs.Reader.{characters_long, character_behind}
-use borrow.Author.Rules.{rules}
 use Rattle.reply.proofs.guessing.mark_at.Goals as goal
 
 pub returns-then-bytes-k : goal.returns-then-bytes-k

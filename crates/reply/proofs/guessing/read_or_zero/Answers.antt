@@ -1,7 +1,6 @@
 -- `reply::read_or_zero` meets its contract: the arm taken says what was read. Assumes nothing.
 use mathlib.Core.Path.{sym, ◌∙◌}
 use Rattle.reply.specs.Read.{read_or_zero}
-use borrow.Author.Rules.{rules}
 use Rattle.reply.proofs.guessing.read_or_zero.Goals as goal
 
 pub returns-in-Partial : goal.returns-in-Partial
