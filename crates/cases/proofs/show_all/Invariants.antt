@@ -1,5 +1,5 @@
 -- `cases::show_all` is safe and ends: each turn passes a line of the text. Assumes nothing.
-use Rattle.std.proofs.Common.{◌+◌, ◌-◌, ◌≤◌, length, rules}
+use Rattle.std.proofs.Common.{◌+◌, ◌-◌, ◌≤◌, length}
 use Rattle.cases.proofs.show_all.Given as goal
 
 abbrev pub invariant-loop-at : goal.invariant-loop-at

@@ -1,5 +1,5 @@
 -- `cases::pair::each` is safe and ends: the loop runs through the words, and what is lent keeps its length. Assumes nothing.
-use Rattle.std.proofs.Common.{◌≡◌, ◌-◌, ◌≤◌, length, rules}
+use Rattle.std.proofs.Common.{◌≡◌, ◌-◌, ◌≤◌, length}
 use Rattle.cases.proofs.pair.each.Given as goal
 
 abbrev pub invariant-loop-i : goal.invariant-loop-i

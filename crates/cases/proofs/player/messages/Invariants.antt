@@ -1,5 +1,5 @@
 -- `cases::player::messages` is safe and ends: the messages are counted up to the most there may be. Assumes nothing.
-use Rattle.std.proofs.Common.{◌≡◌, ◌-◌, ◌≤◌, length, rules}
+use Rattle.std.proofs.Common.{◌≡◌, ◌-◌, ◌≤◌, length}
 use Rattle.cases.proofs.player.messages.Given as goal
 
 abbrev pub invariant-loop-k : goal.invariant-loop-k
