@@ -32,8 +32,11 @@
 // the line is no case), and then how many cases there are and how many differ. The empty line is no case.
 #![tactic(auto)]
 
-use libc::{STDIN_FILENO, STDOUT_FILENO};
+ghost use Rattle.std.specs.Prelude.{◌≤◌, IfOk, length};
+
 use player::Outcome;
+use std::io;
+use std::io::Read;
 
 mod cards;
 mod pair;
@@ -50,26 +53,39 @@ struct Count {
     differ: u64,
 }
 
+// Reads until the room is full or the input ends; answers how many bytes that were.
+fn read_full(input: &mut impl Read, room: &mut [u8]) -> io::Result<usize>
+    ensures { IfOk result (λ n. n ≤ length room.new) }
+{
+    let mut done = 0;
+    while done < room.len() {
+        let n = input.read(&mut room[done..])?;
+        if n == 0 {
+            break;
+        }
+        done += n;
+    }
+    Ok(done)
+}
+
 // Plays the case and writes its line; answers 1 where it differs.
-fn show(line: &[u8]) -> u64 {
-    io::write_all(STDOUT_FILENO, reader::field(line, 0));
+fn show(rt: &impl Print, line: &[u8]) -> io::Result<u64> {
+    rt.write_all(reader::field(line, 0))?;
     let outcome = cards::play(line);
     match outcome {
         Outcome::Same => {
-            io::write_all(STDOUT_FILENO, b" ok\n");
-            0
+            println!(rt; " ok")?;
+            Ok(0)
         }
         Outcome::Differs(k) => {
-            io::write_all(STDOUT_FILENO, b" differs at ");
-            io::print_decimal(STDOUT_FILENO, k as u64);
-            io::write_all(STDOUT_FILENO, b"\n");
-            1
+            println!(rt; " differs at {k}")?;
+            Ok(1)
         }
     }
 }
 
 // All the lines.
-fn show_all(text: &[u8]) -> Count {
+fn show_all(rt: &impl Print, text: &[u8]) -> io::Result<Count> {
     let mut cases: u64 = 0;
     let mut differ: u64 = 0;
     let mut at = 0;
@@ -77,23 +93,19 @@ fn show_all(text: &[u8]) -> Count {
         let end = reader::stop(text, at, b'\n');
         if at < end {
             cases = std::num::wrapping_add_u64(cases, 1);
-            differ = std::num::wrapping_add_u64(differ, show(&text[at..end]));
+            differ = std::num::wrapping_add_u64(differ, show(rt, &text[at..end])?);
         }
         at = end + 1;
     }
-    Count { cases, differ }
+    Ok(Count { cases, differ })
 }
 
-fn main() {
+fn main(rt: HostRuntime) -> io::Result<()> {
     let mut text = [0u8; ROOM];
-    let n = io::read_full(STDIN_FILENO, &mut text);
+    let n = read_full(&mut rt.reader(), &mut text)?;
     if n == ROOM {
-        io::write_all(STDOUT_FILENO, b"too much input\n");
-        return;
+        return println!(rt; "too much input");
     }
-    let count = show_all(&text[..n]);
-    io::print_decimal(STDOUT_FILENO, count.cases);
-    io::write_all(STDOUT_FILENO, b" cases, ");
-    io::print_decimal(STDOUT_FILENO, count.differ);
-    io::write_all(STDOUT_FILENO, b" differ\n");
+    let Count { cases, differ } = show_all(&rt, &text[..n])?;
+    println!(rt; "{cases} cases, {differ} differ")
 }

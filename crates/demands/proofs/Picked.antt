@@ -65,7 +65,7 @@ module _ (a : Answer) (e : is_answer a ≡ true) where
       let xs = travelling (before_star a) in
       ap (λ (bs : List ℕ). replies_in (bs ++ rest)) ends
       ∙ ap replies_in (append_assoc xs (with_parity star ∷ []) rest)
-      ∙ up_to_star (before_star a) (before_plain a p.is-letter p.is_address p.is-identifier) rest
+      ∙ up_to_star (before_star a) (before_plain a p.is-letter p.is-address p.is-identifier) rest
       ∙ ap (λ (bs : List ℕ). bs ∷ replies_in rest) (sym ends)
 
   read_by : (s : Setup) → spoken_by s its ≡ (eqb a.letter s.letter && eqb a.address s.address)

@@ -81,7 +81,7 @@ module _ (m : Message) (names : ℕ) (scan : List ℕ) where
   card_sound e bench maker values p n v =
       let t = parts m e in
       record {
-        card_sound = parts_card card_for (record { is_set = setup_sound setup_for t.is-letter t.is_address first_revision; is_open = spelled_sound m e });
+        card_sound = parts_card card_for (record { is_set = setup_sound setup_for t.is-letter t.is-address first_revision; is_open = spelled_sound m e });
         sheets_sound = p;
         offer_sound = nothing_sound bench maker;
         scan_sound = n;
@@ -283,7 +283,7 @@ module _ (l a i : ℕ) (pl : is_letter l ≡ true) (pa : is_address a ≡ true) 
 pub answer_drawn : (a : Answer) → is_answer a ≡ true → Drawn (travelling (spell_answer a)) a
 answer_drawn a e =
     let p = answer_parts a e in
-    content_drawn a.letter a.address a.identifier p.is-letter p.is_address p.is-identifier a.mark a.content p.fits-content
+    content_drawn a.letter a.address a.identifier p.is-letter p.is-address p.is-identifier a.mark a.content p.fits-content
 
 -- ---- the reader
 

@@ -1,5 +1,5 @@
 -- `cases::cards::sheet_of` is safe: the place i below 24 is number i % 6 of row i / 6. Assumes nothing.
-use Rattle.std.proofs.Common.{◌-◌, ◌≤◌, arith}
+use Rattle.std.proofs.Common.{◌-◌, ◌≤◌}
 use Rattle.cases.proofs.cards.sheet_of.Given as goal
 
 abbrev pub invariant-loop-i : goal.invariant-loop-i

@@ -1,5 +1,5 @@
 -- `cases::pair::message` is safe: the words of the message lie in their array. Assumes nothing.
-use Rattle.std.proofs.Common.{sym, length-take-le, rules}
+use Rattle.std.proofs.Common.{sym, length-take-le}
 use Rattle.cases.proofs.pair.message.Goals as goal
 
 pub slice_bounds-by_run-end : goal.slice_bounds-by_run-end

@@ -1,5 +1,5 @@
 -- `cases::pair::thrice` is safe and ends: each place is below 384, and its remainder below 128. Assumes nothing.
-use Rattle.std.proofs.Common.{◌-◌, ◌≤◌, rules}
+use Rattle.std.proofs.Common.{◌-◌, ◌≤◌}
 use Rattle.cases.proofs.pair.thrice.Given as goal
 
 abbrev pub invariant-loop-i : goal.invariant-loop-i

@@ -1,5 +1,5 @@
 -- `cases::player::each` is safe and ends: the loop runs through the words, and what is lent keeps its length. Assumes nothing.
-use Rattle.std.proofs.Common.{◌≡◌, ◌-◌, ◌≤◌, length, rules}
+use Rattle.std.proofs.Common.{rules}
 use Rattle.cases.proofs.player.each.Goals as goal
 
 -- by the loop's test, and since the count of the words is a number of 64 bits

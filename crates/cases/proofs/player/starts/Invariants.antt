@@ -1,5 +1,5 @@
 -- `cases::player::starts` is safe and ends: the loop runs through the characters. Assumes nothing.
-use Rattle.std.proofs.Common.{◌-◌, ◌≤◌, length, rules}
+use Rattle.std.proofs.Common.{◌-◌, ◌≤◌, length}
 use Rattle.cases.proofs.player.starts.Given as goal
 
 abbrev pub invariant-loop-i : goal.invariant-loop-i

@@ -1,5 +1,5 @@
 -- `cases::reader::is_number` is safe and ends: the loop runs through the text. Assumes nothing.
-use Rattle.std.proofs.Common.{◌-◌, ◌≤◌, length, rules}
+use Rattle.std.proofs.Common.{◌-◌, ◌≤◌, length}
 use Rattle.cases.proofs.reader.is_number.Given as goal
 
 abbrev pub invariant-loop-i : goal.invariant-loop-i

@@ -1,5 +1,5 @@
 -- `cases::reader::start` meets its contract: the place stays in the line, and the fields to pass grow fewer. Assumes nothing.
-use Rattle.std.proofs.Common.{◌-◌, ◌≤◌, length, rules}
+use Rattle.std.proofs.Common.{◌-◌, ◌≤◌, length}
 use Rattle.cases.proofs.reader.start.Given as goal
 
 abbrev pub invariant-loop-i : goal.invariant-loop-i

@@ -1,5 +1,5 @@
 -- `cases::reader::stop` meets its contract: the loop runs from the first place to the end. Assumes nothing.
-use Rattle.std.proofs.Common.{◌-◌, ◌≤◌, length, rules}
+use Rattle.std.proofs.Common.{◌-◌, ◌≤◌, length}
 use Rattle.cases.proofs.reader.stop.Given as goal
 
 abbrev pub invariant-loop-i : goal.invariant-loop-i

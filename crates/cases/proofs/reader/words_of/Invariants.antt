@@ -1,5 +1,5 @@
 -- `cases::reader::words_of` meets its contract: each turn passes a character of the message. Assumes nothing.
-use Rattle.std.proofs.Common.{◌≡◌, ◌-◌, ◌≤◌, length, ◌∙◌, arith, length-set, rules, ltb-true}
+use Rattle.std.proofs.Common.{◌≡◌, ◌-◌, ◌≤◌, length}
 use Rattle.cases.proofs.reader.words_of.Given as goal
 
 abbrev pub invariant-loop-at : goal.invariant-loop-at
