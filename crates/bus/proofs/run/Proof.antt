@@ -1,8 +1,8 @@
 -- `bus::run` meets its contract: a refused run leaves everything, and a served one is played. Assumes nothing.
 use mathlib.Core.Path.{◌≡◌, sym, ap, ◌∙◌}
 use borrow.Author.Rules.{rules}
-use Rattle.refusal-1.specs.Refusal.{Outcome, gave, verdict_of}
-use Rattle.refusal-1.specs.Check.{first, decided}
+use Rattle.refusal.specs.Refusal.{Outcome, gave, verdict_of}
+use Rattle.refusal.specs.Check.{first, decided}
 use Rattle.bus.specs.Rows.{RowsAfter, rows_checks}
 use Rattle.bus.specs.Inner.{served_rows}
 use Rattle.bus.proofs.Sharing.{rows_kept, rows_is}

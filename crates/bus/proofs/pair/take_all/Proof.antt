@@ -181,8 +181,8 @@ loop-again c =
           (came v).buffer (l.loop-halt.at + n q) (i + 1) stands-there (next c) (is-next c),
       subst (Closes (words (s t))) (sym (is-next c)) (reached_hears (words (s t)) none (i + 1)),
       ten c,
-      put_length 128 (j v) (came v).values-1 (values v) (part-long q) (omega (arith, k-in (meaning v), long l)) ∙ l.loop-halt.invariant.3,
-      length-set l.loop-halt.offers (j v) (effect v).offer-1 ∙ l.loop-halt.invariant.4,
+      put_length 128 (j v) (came v).values (values v) (part-long q) (omega (arith, k-in (meaning v), long l)) ∙ l.loop-halt.invariant.3,
+      length-set l.loop-halt.offers (j v) (effect v).offer ∙ l.loop-halt.invariant.4,
       l.loop-halt.invariant.5,
     )
 
