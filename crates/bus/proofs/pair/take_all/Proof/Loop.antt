@@ -170,7 +170,7 @@ module _ (t : tie.After-to_close-halt Inv-loop μ-loop) where
   hold os values = standing (bench s) (maker s) ss os values
 
   abbrev pub first : Reached
-  first = reached_of t.to_close-halt.new.0 t.to_close-halt.result
+  first = reached_of t.to_close-halt.new.chars t.to_close-halt.result
 
   pub is-first : first ≡ to_close p (words s) 0
   is-first = ap₂ reached_of t.to_close-halt.ensures.1 t.to_close-halt.ensures.0
@@ -278,7 +278,7 @@ module _ (v : tie.After-settle Inv-loop μ-loop) where
   effect = joined.if-is_scan.effect
 
   abbrev pub came : Settled
-  came = record { outcome = outcome_of v.settle.result; values = v.settle.new.1.0; buffer = v.settle.new.1.1.0 }
+  came = record { outcome = outcome_of v.settle.result; values = v.settle.new.values; buffer = v.settle.new.out }
 
   pub acts : effect ≡ effect_of (bench (s b)) (maker (s b)) (get_or (setting b).setups_of-setups.result j no_setup) (get_or loop.loop-halt.offers j Nothing) (lent_part 128 j values) x
   acts =
@@ -287,9 +287,9 @@ module _ (v : tie.After-settle Inv-loop μ-loop) where
       let q = and_right (sound_sheet (bench (s b))) (sound_sheet (maker (s b))) e in
       let i = joined.before in
       ⊎_elim
-      (λ w. w.3 ∙ w.2.ensures ∙ scan_leads (bench (s b)) (maker (s b)) _ _ _ _ p q (indexed b).index-index.ensures x (sym i.is_scan.ensures ∙ w.0.true))
-      (λ w. w.3 ∙ w.2.ensures ∙ row_leads (bench (s b)) (maker (s b)) _ _ _ _ p q (indexed b).index-index.ensures x (sym i.is_scan.ensures ∙ w.0.false))
-      joined.if-is_scan.came
+      (λ w. w.effect-is ∙ w.scan_effect-effect.ensures ∙ scan_leads (bench (s b)) (maker (s b)) _ _ _ _ p q (indexed b).index-index.ensures x (sym i.is_scan.ensures ∙ w.if-is_scan.true))
+      (λ w. w.effect-is ∙ w.effect_of-effect.ensures ∙ row_leads (bench (s b)) (maker (s b)) _ _ _ _ p q (indexed b).index-index.ensures x (sym i.is_scan.ensures ∙ w.if-is_scan.false))
+      joined.if-is_scan.branch-raw
 
   pub room : length (ss b) * 128 ≤ length values
   room = omega (arith, setups-count (setting b), long loop)
@@ -321,13 +321,13 @@ module _ (v : tie.After-settle Inv-loop μ-loop) where
 -- there is no room for the reply
 module _ (c : tie.In_default Inv-loop μ-loop) where
   abbrev pub unsettled : tie.After-settle Inv-loop μ-loop
-  unsettled = c.before.before.before.before.before
+  unsettled = c.before.before.before.before
 
   abbrev pub stood : tie.At-loop-halt Inv-loop μ-loop
   stood = loop unsettled
 
   pub undone : Undone (effect unsettled) (lent_part 128 (j unsettled) (values unsettled)) stood.loop-halt.at stood.loop-halt.out (came unsettled)
-  undone = refused_undone (effect unsettled) (lent_part 128 (j unsettled) (values unsettled)) stood.loop-halt.at stood.loop-halt.out (came unsettled) unsettled.settle.ensures (number_of c.enum_told-1.given.0.0) (ap outcome_of c.enum_told-1.given.1)
+  undone = refused_undone (effect unsettled) (lent_part 128 (j unsettled) (values unsettled)) stood.loop-halt.at stood.loop-halt.out (came unsettled) unsettled.settle.ensures (number_of c.in_default.field-0) (ap outcome_of c.in_default.is)
 
   pub unchanged : put_part 128 (j unsettled) (came unsettled).values (values unsettled) ≡ values unsettled
   unchanged = ap (λ (part : List ℤ). put_part 128 (j unsettled) part (values unsettled)) undone.kept ∙ put_same 128 (j unsettled) (values unsettled)
@@ -339,16 +339,16 @@ rows-lent l = omega (arith, ap length l.loop-halt.invariant.5)
 -- the message is answered
 module _ (q : tie.In-Wrote Inv-loop μ-loop) where
   abbrev pub settled : tie.After-settle Inv-loop μ-loop
-  settled = q.before.before.before.before.before.before
+  settled = q.before.before.before.before
 
   abbrev pub stands : tie.At-loop-halt Inv-loop μ-loop
   stands = loop settled
 
   abbrev pub n : ℕ
-  n = q.before.n-1.given.0.0
+  n = q.in-Wrote.n
 
   pub done : Done (effect settled) (lent_part 128 (j settled) (values settled)) stands.loop-halt.at stands.loop-halt.out (came settled) n
-  done = gave_done (effect settled) (lent_part 128 (j settled) (values settled)) stands.loop-halt.at stands.loop-halt.out (came settled) settled.settle.ensures n (ap outcome_of q.before.n-1.given.1)
+  done = gave_done (effect settled) (lent_part 128 (j settled) (values settled)) stands.loop-halt.at stands.loop-halt.out (came settled) settled.settle.ensures n (ap outcome_of q.in-Wrote.is)
 
   pub fits : stands.loop-halt.at + n ≤ length stands.loop-halt.out
   fits = omega (arith, done.said.count, done.said.room)
