@@ -29,20 +29,20 @@ returns c =
     ended-nobody (numbers s) (bench s) (maker s) (values₀ s) (words s) (out₀ s) c.if-count-eq0.true (omega (arith, values-long s, c.if-count-eq0.true))
 
 setups-of-requires : tie.Need-setups_of-setups-requires Inv-loop μ-loop
-setups-of-requires c κs = (at_most c.before.before.before.before, omega arith)
+setups-of-requires c κs = (at_most c.before.before.before, omega arith)
 
 offers-of-requires : tie.Need-offers_of-offers-requires Inv-loop μ-loop
-offers-of-requires c κs = (at_most c.before.before.before.before.before.before, omega arith)
+offers-of-requires c κs = (at_most (start c), omega arith)
 
 table-of-requires : tie.Need-table_of-table-requires Inv-loop μ-loop
-table-of-requires c κs = let u = c.before.before in (some u, at_most (start u), sound u, are-apart u)
+table-of-requires c κs = let u = c.before in (some u, at_most (start u), sound u, are-apart u)
 
 slice-reshare-prefix-open-in : tie.Need-slice_bounds-open_in-end Inv-loop μ-loop
-slice-reshare-prefix-open-in c = omega (arith, some c.before.before.before.before.before)
+slice-reshare-prefix-open-in c = omega (arith, some c.before.before.before.before)
 
 slice-aggregate-open-in : tie.Need-slice_bounds-open_in-end-2 Inv-loop μ-loop
 slice-aggregate-open-in c =
-    let u = c.before.before.before.before.before.before in
+    let u = c.before.before.before.before in
     sym (length-take-le 23 (numbers (start u)) (omega (arith, some u)))
 
 loop-holds : tie.Need-loop-halt-init Inv-loop μ-loop

@@ -110,13 +110,13 @@ module _ (s : tie.Start Inv-loop μ-loop) where
 -- the setups of the cards
 module _ (u : tie.After-setups_of-setups Inv-loop μ-loop) where
   abbrev pub start : tie.Start Inv-loop μ-loop
-  start = u.before.before.before.before.before
+  start = u.before.before.before.before
 
   abbrev pub setups : List Setup
   setups = take (count start) u.setups_of-setups.result
 
   pub some : 1 ≤ count start
-  some = omega (arith, u.before.before.if-count-eq0.false)
+  some = omega (arith, u.if-count-eq0.false)
 
   pub setups-count : length setups ≡ count start
   setups-count = ap length u.setups_of-setups.ensures ∙ length-map (rows_in (numbers start)) setup_in ∙ rows_count (numbers start)
@@ -133,7 +133,7 @@ module _ (t : tie.After-to_close-halt Inv-loop μ-loop) where
   opened = t.before.before.before
 
   abbrev pub indexed : tie.After-index-index Inv-loop μ-loop
-  indexed = opened.before.before.before
+  indexed = opened.before.before
 
   abbrev pub tabled : tie.After-table_of-table Inv-loop μ-loop
   tabled = indexed.before
@@ -142,7 +142,7 @@ module _ (t : tie.After-to_close-halt Inv-loop μ-loop) where
   offering = tabled.before
 
   abbrev pub setting : tie.After-setups_of-setups Inv-loop μ-loop
-  setting = offering.before.before
+  setting = offering.before
 
   abbrev pub s : tie.Start Inv-loop μ-loop
   s = start setting
