@@ -6,16 +6,16 @@ use Rattle.abi.proofs.answer_row.Goals as goal
 
 pub returns-in-Empty : goal.returns-in-Empty
 unfolding answer_row pairs
-returns-in-Empty c = c.answer_numbers.ensures ∙ sym (rw c.before.enum_told-1.given.1)
+returns-in-Empty c = c.answer_numbers.ensures ∙ sym (rw c.in-Empty.is)
 
 pub returns-in-Number : goal.returns-in-Number
 unfolding answer_row pairs
-returns-in-Number c = c.answer_numbers-in-Number.ensures ∙ sym (rw c.before.before.content-1.given.1)
+returns-in-Number c = c.answer_numbers-in-Number.ensures ∙ sym (rw c.in-Number.is)
 
 pub returns-in-Four : goal.returns-in-Four
 unfolding answer_row pairs
-returns-in-Four c = c.answer_numbers-in-Four.ensures ∙ sym (rw c.before.before.content-in-Four-1.given.1)
+returns-in-Four c = c.answer_numbers-in-Four.ensures ∙ sym (rw c.in-Four.is)
 
 pub returns-in-Five : goal.returns-in-Five
 unfolding answer_row pairs
-returns-in-Five c = c.answer_numbers-in-Five.ensures ∙ sym (rw c.before.before.content-in-Five-1.given.1)
+returns-in-Five c = c.answer_numbers-in-Five.ensures ∙ sym (rw c.in-Five.is)

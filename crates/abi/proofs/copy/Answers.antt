@@ -34,19 +34,17 @@ loop-k-smaller c = omega arith
 
 pub loop-k-preserved : goal.loop-k-preserved
 loop-k-preserved c =
-    let l = c.before.before in
-    let a = l.before.args in
-    let k = l.loop-k.k in
-    let e : set l.loop-k.out (0 + k) (get_or a.numbers.now k (pos 0)) ≡ set l.loop-k.out k _ = ap₂ (set l.loop-k.out) (zero-add k) (sym (rd_ok (get_or a.numbers.now k (pos 0)) c.out-1.given)) in
+    let a = c.args in
+    let k = c.loop-k.k in
+    let e : set c.loop-k.out (0 + k) (get_or a.numbers.now k (pos 0)) ≡ set c.loop-k.out k _ = ap₂ (set c.loop-k.out) (zero-add k) (sym (rd_ok (get_or a.numbers.now k (pos 0)) c.out-1.given)) in
     subst (λ (x : List ℤ). Copied a.numbers.now a.out.now 0 x (k + 1)) e
-    (copy_more (pos 0) a.numbers.now a.out.now 0 l.loop-k.out k l.loop-k.invariant (rw (zero-add (length a.numbers.now)) l.before.requires) c.before.loop-k-test.true)
+    (copy_more (pos 0) a.numbers.now a.out.now 0 c.loop-k.out k c.loop-k.invariant (rw (zero-add (length a.numbers.now)) c.requires) c.loop-k-test.true)
 
 pub shape_of-out : goal.shape_of-out
-shape_of-out c = c.before.loop-k.invariant.filling.long
+shape_of-out c = c.loop-k.invariant.filling.long
 
 pub returns : goal.returns
 returns c =
-    let l = c.before in
-    let a = l.before.args in
-    copy-ends (pos 0) a.numbers.now a.out.now 0 l.loop-k.out l.loop-k.k l.loop-k.invariant (rw (zero-add (length a.numbers.now)) l.before.requires) c.loop-k-test.false
+    let a = c.args in
+    copy-ends (pos 0) a.numbers.now a.out.now 0 c.loop-k.out c.loop-k.k c.loop-k.invariant (rw (zero-add (length a.numbers.now)) c.requires) c.loop-k-test.false
     ∙ placed-front a.numbers.now a.out.now

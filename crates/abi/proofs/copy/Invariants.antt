@@ -12,7 +12,7 @@ use Rattle.refusal.proofs.Buffers.{Copied, copy_starts, copy_more, copy-ends, pl
 use Rattle.abi.proofs.copy.Given as goal
 
 abbrev pub invariant-loop-k : goal.invariant-loop-k
-invariant-loop-k l = Copied l.numbers l.initial.out 0 l.out-1 l.k
+invariant-loop-k l = Copied l.numbers l.initial.out 0 l.out l.k
 
 abbrev pub decreases-loop-k : goal.decreases-loop-k
 decreases-loop-k l = length l.numbers - l.k

@@ -9,7 +9,7 @@ use Rattle.abi.proofs.count_result.Goals as goal
 
 pub returns-then-n-le9223372036854775807 : goal.returns-then-n-le9223372036854775807
 unfolding count_result
-returns-then-n-le9223372036854775807 c = simp (le-leb _ _ c.if-n-le9223372036854775807.true) (to_z_pos w64 c.before.args.n (omega arith))
+returns-then-n-le9223372036854775807 c = simp (le-leb _ _ c.if-n-le9223372036854775807.true) (to_z_pos w64 c.args.n (omega arith))
 
 pub returns-else-n-le9223372036854775807 : goal.returns-else-n-le9223372036854775807
 unfolding count_result

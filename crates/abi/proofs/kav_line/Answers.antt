@@ -11,26 +11,19 @@ use Rattle.abi.proofs.kav_line.Goals as goal
 pub returns-in-Heard : goal.returns-in-Heard
 unfolding line_asked
 returns-in-Heard c =
-    let w = c.before.before.before.line in
-    let m = c.before.before.before.before.before.before in
-    let k = m.before.before in
-    let s = k.before.before in
-    let a = s.args in
+    let a = c.args in
     let out = a.out.now in
     let e =
-    ap (λ (z : ℤ). line_asked a.at (asked a.letter a.address a.identifier a.kind z a.decimals a.minus-zero) out) (sym (rd-is s.ranges.number))
-    ∙ ap (λ (p : Parsed). line_asked a.at p out) (sym k.asked.ensures ∙ m.message-1.given.1) in
-    ap (λ (z : ℤ). filled z w.new.1.1.0) (wide_ok c.result.result c.result.type_inv ∙ c.result.ensures) ∙ ap given (w.ensures ∙ sym e)
+    ap (λ (z : ℤ). line_asked a.at (asked a.letter a.address a.identifier a.kind z a.decimals a.minus_zero) out) (sym (rd-is c.ranges.number))
+    ∙ ap (λ (p : Parsed). line_asked a.at p out) (sym c.asked.ensures ∙ c.in-Heard.is) in
+    ap (λ (z : ℤ). filled z c.line.new.out) (wide_ok c.result.result c.result.type_inv ∙ c.result.ensures) ∙ ap given (c.line.ensures ∙ sym e)
 
 pub returns-in-Unheard : goal.returns-in-Unheard
 unfolding line_asked result_of
 returns-in-Unheard c =
-    let m = c.before in
-    let k = m.before.before in
-    let s = k.before.before in
-    let a = s.args in
+    let a = c.args in
     let out = a.out.now in
     let e =
-    ap (λ (z : ℤ). line_asked a.at (asked a.letter a.address a.identifier a.kind z a.decimals a.minus-zero) out) (sym (rd-is s.ranges.number))
-    ∙ ap (λ (p : Parsed). line_asked a.at p out) (sym k.asked.ensures ∙ m.enum_told-1.given.1) in
+    ap (λ (z : ℤ). line_asked a.at (asked a.letter a.address a.identifier a.kind z a.decimals a.minus_zero) out) (sym (rd-is c.ranges.number))
+    ∙ ap (λ (p : Parsed). line_asked a.at p out) (sym c.asked.ensures ∙ c.in-Unheard.is) in
     ap (λ (z : ℤ). filled z out) (wide_ok c.minus_number.result c.minus_number.type_inv ∙ c.minus_number.ensures) ∙ sym (ap given e)

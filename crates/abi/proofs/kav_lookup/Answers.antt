@@ -12,21 +12,18 @@ use Rattle.abi.proofs.kav_lookup.Goals as goal
 
 pub returns-then-row-lt6 : goal.returns-then-row-lt6
 returns-then-row-lt6 c =
-    let a = c.before.before.args in
-    let e = lookup_short (shown a.bench.now a.maker.now a.identifier) a.row.now c.before.if-row-lt6.true in
+    let a = c.args in
+    let e = lookup_short (shown a.bench.now a.maker.now a.identifier) a.row.now c.if-row-lt6.true in
     ap (λ (z : ℤ). filled z a.row.now) (wide_ok c.minus_number.result c.minus_number.type_inv ∙ c.minus_number.ensures) ∙ sym e
 
 pub returns-then-part-ne6 : goal.returns-then-part-ne6
 returns-then-part-ne6 c =
-    let k = c.before in
-    let a = k.before.before.args in
-    let e = lookup_none (shown a.bench.now a.maker.now a.identifier) a.row.now k.before.if-row-lt6.false (λ h. c.if-part-ne6.true (ap length k.lookup-part.ensures.0 ∙ h)) in
+    let a = c.args in
+    let e = lookup_none (shown a.bench.now a.maker.now a.identifier) a.row.now c.if-row-lt6.false (λ h. c.if-part-ne6.true (ap length c.lookup-part.ensures.numbers ∙ h)) in
     sym e
 
 pub returns : goal.returns
 returns c =
-    let n = c.before.before.before in
-    let k = n.before in
-    let a = k.before.before.args in
-    let e = lookup_row (shown a.bench.now a.maker.now a.identifier) a.row.now k.before.if-row-lt6.false (sym (ap length k.lookup-part.ensures.0) ∙ n.if-part-ne6.false) in
-    ap (filled _) (c.before.copy.ensures ∙ ap (λ (l : List ℤ). laid l a.row.now) k.lookup-part.ensures.0) ∙ sym e
+    let a = c.args in
+    let e = lookup_row (shown a.bench.now a.maker.now a.identifier) a.row.now c.if-row-lt6.false (sym (ap length c.lookup-part.ensures.numbers) ∙ c.if-part-ne6.false) in
+    ap (filled _) (c.copy.ensures ∙ ap (λ (l : List ℤ). laid l a.row.now) c.lookup-part.ensures.numbers) ∙ sym e

@@ -8,5 +8,5 @@ use Rattle.abi.proofs.kav_normal_form.Goals as goal
 
 pub returns : goal.returns
 returns c =
-    let n = c.before.before.before.normal_form in
-    ap (λ (z : ℤ). filled z n.new.1.0) (wide_ok c.result.result c.result.type_inv ∙ c.result.ensures) ∙ ap given n.ensures
+    let n = c.normal_form in
+    ap (λ (z : ℤ). filled z n.new.out) (wide_ok c.result.result c.result.type_inv ∙ c.result.ensures) ∙ ap given n.ensures

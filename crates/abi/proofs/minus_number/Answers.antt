@@ -11,10 +11,10 @@ use Rattle.abi.proofs.minus_number.Goals as goal
 
 pub overflow_sub-result : goal.overflow_sub-result
 overflow_sub-result c =
-    let r = c.before.args.refusal in
+    let r = c.args.refusal in
     subst (SFits w64) (sym (below_zero _ _ c.number.ensures (number_small r))) (minus_fits (number_of r) (number_small r))
 
 pub returns : goal.returns
 returns c =
-    let r = c.before.args.refusal in
+    let r = c.args.refusal in
     to_z-of_z w64 _ (overflow_sub-result c) ∙ below_zero _ _ c.number.ensures (number_small r)

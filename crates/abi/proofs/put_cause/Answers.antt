@@ -10,6 +10,5 @@ use Rattle.abi.proofs.put_cause.Goals as goal
 
 pub returns : goal.returns
 returns c =
-    let k = c.before in
-    ap₂ (λ (x y : ℤ). set (set k.before.args.cause.now 0 x) 1 y)
-    (to_z_pos w32 k.cause_code.result (omega arith) ∙ ap pos k.cause_code.ensures) (to_z_pos w32 c.cause_position.result (omega arith) ∙ ap pos c.cause_position.ensures)
+    ap₂ (λ (x y : ℤ). set (set c.args.cause.now 0 x) 1 y)
+    (to_z_pos w32 c.cause_code.result (omega arith) ∙ ap pos c.cause_code.ensures) (to_z_pos w32 c.cause_position.result (omega arith) ∙ ap pos c.cause_position.ensures)

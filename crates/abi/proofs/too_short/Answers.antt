@@ -6,4 +6,4 @@ use borrow.Author.Rules.{rules}
 use Rattle.abi.proofs.too_short.Goals as goal
 
 pub returns : goal.returns
-returns c = wide_ok c.without_room.result c.without_room.type_inv ∙ c.without_room.ensures ∙ ap too_short c.before.check.ensures
+returns c = wide_ok c.without_room.result c.without_room.type_inv ∙ c.without_room.ensures ∙ ap too_short c.check.ensures

@@ -8,7 +8,7 @@ use borrow.Author.Rules.{rules}
 use Rattle.abi.proofs.without_room.Goals as goal
 
 pub returns-in-Refused : goal.returns-in-Refused
-returns-in-Refused c = wide_ok c.minus_number.result c.minus_number.type_inv ∙ c.minus_number.ensures ∙ ap (λ (v : Verdict). too_short (verdict_of v)) (sym c.before.before.verdict-1.given.1)
+returns-in-Refused c = wide_ok c.minus_number.result c.minus_number.type_inv ∙ c.minus_number.ensures ∙ ap (λ (v : Verdict). too_short (verdict_of v)) (sym c.in-Refused.is)
 
 pub returns-in-Passed : goal.returns-in-Passed
-returns-in-Passed c = wide_ok c.minus_number-in-Passed.result c.minus_number-in-Passed.type_inv ∙ c.minus_number-in-Passed.ensures ∙ ap (λ (v : Verdict). too_short (verdict_of v)) (sym c.before.enum_told-1.given.1)
+returns-in-Passed c = wide_ok c.minus_number-in-Passed.result c.minus_number-in-Passed.type_inv ∙ c.minus_number-in-Passed.ensures ∙ ap (λ (v : Verdict). too_short (verdict_of v)) (sym c.in-Passed.is)

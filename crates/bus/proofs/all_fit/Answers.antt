@@ -36,13 +36,11 @@ loop-i-smaller c = omega arith
 
 pub returns-then-not-fits_sheets : goal.returns-then-not-fits_sheets
 returns-then-not-fits_sheets c =
-    let n = c.before.before.before in
-    parts_fail 23 (card_row_fits _ _) _ _ n.before.loop-i.invariant n.loop-i-test.true c.before.fits_sheets.ensures (not-true _ c.if-not-fits_sheets.true)
+    parts_fail 23 (card_row_fits _ _) _ _ c.loop-i.invariant c.loop-i-test.true c.fits_sheets.ensures c.if-not-fits_sheets.true
 
 pub loop-i-preserved : goal.loop-i-preserved
 loop-i-preserved c =
-    let n = c.before.before.before in
-    parts_pass 23 (card_row_fits _ _) _ _ n.before.loop-i.invariant n.loop-i-test.true c.before.fits_sheets.ensures (not-false _ c.if-not-fits_sheets.false)
+    parts_pass 23 (card_row_fits _ _) _ _ c.loop-i.invariant c.loop-i-test.true c.fits_sheets.ensures c.if-not-fits_sheets.false
 
 pub returns : goal.returns
-returns c = parts_end 23 (card_row_fits _ _) _ _ c.before.loop-i.invariant c.loop-i-test.false
+returns c = parts_end 23 (card_row_fits _ _) _ _ c.loop-i.invariant c.loop-i-test.false

@@ -37,25 +37,25 @@ module _ (s : tie.After-sound_rows) where
   rows = sym (s.sound_rows.ensures ∙ rows_sound numbers)
 
 passed : (e : tie.Else-not-sound_rows) → (is_rows (numbers e.before) && every sound_card (cards_of (numbers e.before))) ≡ true
-passed e = rows e.before ∙ not-false _ e.if-not-sound_rows.false
+passed e = rows e.before ∙ e.if-not-sound_rows.false
 
 shared : (z : tie.Else-not-sound_bus) → sound_bus (cards_of (numbers z.before.before.before)) ≡ true
-shared z = sym z.before.sound_bus.ensures ∙ not-false _ z.if-not-sound_bus.false
+shared z = sym z.before.sound_bus.ensures ∙ z.if-not-sound_bus.false
 
 sheets : (t : tie.After-sound_sheet-2) → let s = t.before.before.before.before.before in (sound_sheet (bench s) && sound_sheet (maker s)) ≡ (t.before.sound_sheet.result && t.sound_sheet-2.result)
 sheets t = sym (ap₂ (λ (x y : Bool). x && y) t.before.sound_sheet.ensures t.sound_sheet-2.ensures)
 
 both : (y : tie.Else-not-sound_sheet) → let s = y.before.before.before.before.before.before in (sound_sheet (bench s) && sound_sheet (maker s)) ≡ true
-both y = sheets y.before ∙ not-false _ y.if-not-sound_sheet.false
+both y = sheets y.before ∙ y.if-not-sound_sheet.false
 
 fits : (t : tie.After-all_fit) → let s = t.before.before.before.before.before.before.before in every (fits_sheets (bench s) (maker s)) (cards_of (numbers s)) ≡ t.all_fit.result
 fits t = let s = t.before.before.before.before.before.before.before in sym (t.all_fit.ensures ∙ all_fit (bench s) (maker s) (numbers s))
 
 fitted : (x : tie.Else-not-all_fit) → let s = x.before.before.before.before.before.before.before.before in every (fits_sheets (bench s) (maker s)) (cards_of (numbers s)) ≡ true
-fitted x = fits x.before ∙ not-false _ x.if-not-all_fit.false
+fitted x = fits x.before ∙ x.if-not-all_fit.false
 
 valued : (v : tie.Else-not-sound_parts) → let s = v.before.before.before.before.before.before.before.before.before.before in sound_parts (bench s) (maker s) (length (numbers s) / 23) (values s) ≡ true
-valued v = sym v.before.sound_parts.ensures ∙ not-false _ v.if-not-sound_parts.false
+valued v = sym v.before.sound_parts.ensures ∙ v.if-not-sound_parts.false
 
 sound-parts-requires : tie.Need-sound_parts-requires
 sound-parts-requires c κs = few (numbers c.before.before.before.before.before.before.before.before) (shared c.before.before.before.before.before)
@@ -63,20 +63,20 @@ sound-parts-requires c κs = few (numbers c.before.before.before.before.before.b
 returns : tie.Need-returns-then-not-sound_rows
 returns c =
     let s = c.before in
-    sym (rows_unsound (numbers s) (bench s) (maker s) (values s) (words s) (rows s ∙ not-true _ c.if-not-sound_rows.true))
+    sym (rows_unsound (numbers s) (bench s) (maker s) (values s) (words s) (rows s ∙ c.if-not-sound_rows.true))
 
 returns-2 : tie.Need-returns-then-not-sound_bus
 returns-2 c =
     let e = c.before.before in
     let s = e.before in
-    sym (bus_unsound (numbers s) (bench s) (maker s) (values s) (words s) (passed e) (sym c.before.sound_bus.ensures ∙ not-true _ c.if-not-sound_bus.true))
+    sym (bus_unsound (numbers s) (bench s) (maker s) (values s) (words s) (passed e) (sym c.before.sound_bus.ensures ∙ c.if-not-sound_bus.true))
 
 returns-3 : tie.Need-returns-then-not-sound_sheet
 returns-3 c =
     let z = c.before.before.before in
     let e = z.before.before in
     let s = e.before in
-    sym (sheets_unsound (numbers s) (bench s) (maker s) (values s) (words s) (passed e) (shared z) (sheets c.before ∙ not-true _ c.if-not-sound_sheet.true))
+    sym (sheets_unsound (numbers s) (bench s) (maker s) (values s) (words s) (passed e) (shared z) (sheets c.before ∙ c.if-not-sound_sheet.true))
 
 returns-4 : tie.Need-returns-then-not-all_fit
 returns-4 c =
@@ -84,7 +84,7 @@ returns-4 c =
     let z = y.before.before.before in
     let e = z.before.before in
     let s = e.before in
-    sym (card_unfit (numbers s) (bench s) (maker s) (values s) (words s) (passed e) (shared z) (both y) (fits c.before ∙ not-true _ c.if-not-all_fit.true))
+    sym (card_unfit (numbers s) (bench s) (maker s) (values s) (words s) (passed e) (shared z) (both y) (fits c.before ∙ c.if-not-all_fit.true))
 
 returns-5 : tie.Need-returns-then-not-sound_parts
 returns-5 c =
@@ -93,7 +93,7 @@ returns-5 c =
     let z = y.before.before.before in
     let e = z.before.before in
     let s = e.before in
-    sym (values_unsound (numbers s) (bench s) (maker s) (values s) (words s) (passed e) (shared z) (both y) (fitted x) (sym c.before.sound_parts.ensures ∙ not-true _ c.if-not-sound_parts.true))
+    sym (values_unsound (numbers s) (bench s) (maker s) (values s) (words s) (passed e) (shared z) (both y) (fitted x) (sym c.before.sound_parts.ensures ∙ c.if-not-sound_parts.true))
 
 returns-6 : tie.Need-returns-then-not-valid_words
 returns-6 c =
@@ -103,7 +103,7 @@ returns-6 c =
     let z = y.before.before.before in
     let e = z.before.before in
     let s = e.before in
-    sym (word_above (numbers s) (bench s) (maker s) (values s) (words s) (passed e) (shared z) (both y) (fitted x) (valued v) (sym c.before.valid_words.ensures ∙ not-true _ c.if-not-valid_words.true))
+    sym (word_above (numbers s) (bench s) (maker s) (values s) (words s) (passed e) (shared z) (both y) (fitted x) (valued v) (sym c.before.valid_words.ensures ∙ c.if-not-valid_words.true))
 
 returns-7 : tie.Need-returns
 returns-7 c =
@@ -113,7 +113,7 @@ returns-7 c =
     let z = y.before.before.before in
     let e = z.before.before in
     let s = e.before in
-    sym (all_pass (numbers s) (bench s) (maker s) (values s) (words s) (passed e) (shared z) (both y) (fitted x) (valued v) (sym c.before.valid_words.ensures ∙ not-false _ c.if-not-valid_words.false))
+    sym (all_pass (numbers s) (bench s) (maker s) (values s) (words s) (passed e) (shared z) (both y) (fitted x) (valued v) (sym c.before.valid_words.ensures ∙ c.if-not-valid_words.false))
 
 pub check_spec : {M : Type 1} → statement M
 check_spec = tie.close (tie.spec

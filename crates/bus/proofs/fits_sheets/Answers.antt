@@ -11,8 +11,6 @@ use Rattle.bus.proofs.fits_sheets.Goals as goal
 pub returns : goal.returns
 unfolding card_row_fits fits_sheets
 returns c =
-    let o = c.before in
-    let h = o.before.before in
-    let a = h.before.args in
-    ap₂ ◌&&◌ (o.sound_offer.ensures ∙ ap (λ (x : Card). sound_offer a.bench.now a.maker.now x.offer) h.card_of-held.ensures)
-    (c.sound_scan.ensures ∙ ap (λ (x : Card). sound_scan a.bench.now a.maker.now x.setup-1) h.card_of-held.ensures)
+    let a = c.args in
+    ap₂ ◌&&◌ (c.sound_offer.ensures ∙ ap (λ (x : Card). sound_offer a.bench.now a.maker.now x.offer) c.card_of-held.ensures)
+    (c.sound_scan.ensures ∙ ap (λ (x : Card). sound_scan a.bench.now a.maker.now x.setup) c.card_of-held.ensures)

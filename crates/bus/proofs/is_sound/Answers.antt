@@ -8,4 +8,4 @@ use Rattle.bus.proofs.is_sound.Goals as goal
 
 pub returns : goal.returns
 unfolding sound_card_row
-returns c = ap₂ ◌&&◌ c.before.before.is_row.ensures (c.sound_card.ensures ∙ ap sound_card c.before.card_of.ensures)
+returns c = ap₂ ◌&&◌ c.is_row.ensures (c.sound_card.ensures ∙ ap sound_card c.card_of.ensures)

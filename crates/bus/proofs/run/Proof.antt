@@ -1,8 +1,8 @@
 -- `bus::run` meets its contract: a refused run leaves everything, and a served one is played. Assumes nothing.
 use mathlib.Core.Path.{◌≡◌, sym, ap, ◌∙◌}
 use borrow.Author.Rules.{rules}
-use Rattle.refusal-1.specs.Refusal.{Outcome, gave, verdict_of}
-use Rattle.refusal-1.specs.Check.{first, decided}
+use Rattle.refusal.specs.Refusal.{Outcome, gave, verdict_of}
+use Rattle.refusal.specs.Check.{first, decided}
 use Rattle.bus.specs.Rows.{RowsAfter, rows_checks}
 use Rattle.bus.specs.Inner.{served_rows}
 use Rattle.bus.proofs.Sharing.{rows_kept, rows_is}
@@ -10,8 +10,8 @@ use Rattle.bus.proofs.run.Statement.{statement}
 use Rattle.bus.proofs.run.Tie as tie
 
 -- the verdict says that the tests are passed
-passed : (k : tie.In-Passed) → let a = k.before.before.before.before.before.before.before.args in first (rows_checks a.numbers.now a.bench.now a.maker.now a.values.now a.words.now) ≡ gave tt
-passed k = sym k.before.before.check.ensures ∙ ap verdict_of k.enum_told-1.given.1
+passed : (k : tie.In-Passed) → let a = k.args in first (rows_checks a.numbers.now a.bench.now a.maker.now a.values.now a.words.now) ≡ gave tt
+passed k = sym k.check.ensures ∙ ap verdict_of k.in-Passed.is
 
 take-all-requires : tie.Need-take_all-requires
 take-all-requires c κs = passed c.before.before.before
@@ -24,17 +24,15 @@ comes s o =
 
 returns : tie.Need-returns-in-Refused
 returns c =
-    let r = c.before in
-    let k = r.before.before in
-    let s = k.before.before.before.before.before in
+    let s = c.before.before.before.before in
     let a = s.args in
-    sym (rows_is a.numbers.now a.bench.now a.maker.now a.values.now a.words.now a.out.now ∙ ap (comes s) (sym k.check.ensures ∙ ap verdict_of r.refusal-1.given.1))
+    sym (rows_is a.numbers.now a.bench.now a.maker.now a.values.now a.words.now a.out.now ∙ ap (comes s) (sym c.check.ensures ∙ ap verdict_of c.in-Refused.is))
 
 returns-2 : tie.Need-returns-in-Passed
 returns-2 c =
     let t = c.before.before.before.before in
     let k = t.before.before.before.before in
-    let s = k.before.before.before.before.before.before.before in
+    let s = k.before.before.before.before in
     let a = s.args in
     t.take_all.ensures
     ∙ sym (rows_is a.numbers.now a.bench.now a.maker.now a.values.now a.words.now a.out.now ∙ ap (comes s) (passed k))

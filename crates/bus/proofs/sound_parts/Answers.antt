@@ -1,7 +1,10 @@
 -- `bus::sound_parts` meets its contract. The loop's invariant: the values of the first i cards passed. Assumes nothing.
 use mathlib.Core.Path.{◌≡◌, refl, sym, ap, ◌∙◌}
 use mathlib.Core.Bool.{Bool, ◌&&◌}
-use Prim.Native.Nat.{◌-◌}
+use mathlib.Core.List.{List}
+use Prim.Native.Nat.{ℕ, ◌*◌}
+use lib.IntN.{ℤ}
+use lib.ListN.{length}
 use native.Mathlib.Omega.{arith}
 use borrow.Author.Rules.{rules}
 use borrow.Author.Tests.{eq-eqb, ne_eqb, not-true, not-false}
@@ -47,22 +50,21 @@ pub loop-i-smaller : goal.loop-i-smaller
 loop-i-smaller c = omega arith
 
 -- there are 128 for each, so the parts decide
-by_parts : {b : Bool} (e : goal.Else-values-count invariant-loop-i decreases-loop-i) → let a = e.before.args in b ≡ every (sound_values a.bench.now a.maker.now) (parts 128 a.count a.values.now) → b ≡ sound_parts a.bench.now a.maker.now a.count a.values.now
+by_parts : {b : Bool} (bench maker : List ℤ) (count : ℕ) (values : List ℤ) → length values ≡ count * 128 → b ≡ every (sound_values bench maker) (parts 128 count values) → b ≡ sound_parts bench maker count values
 unfolding sound_parts
-by_parts e q =
-    let a = e.before.args in
-    q ∙ sym (ap (λ (x : Bool). x && every (sound_values a.bench.now a.maker.now) (parts 128 a.count a.values.now)) (eq-eqb _ _ e.if-values-count.false))
+by_parts bench maker count values e q =
+    q ∙ sym (ap (λ (x : Bool). x && every (sound_values bench maker) (parts 128 count values)) (eq-eqb (length values) (count * 128) e))
 
 pub returns-then-not-sound_values : goal.returns-then-not-sound_values
 returns-then-not-sound_values c =
-    let n = c.before.before.before in
-    let l = n.before in
-    by_parts l.before (parts_fail 128 (sound_values _ _) _ _ l.loop-i.invariant n.loop-i-test.true c.before.sound_values.ensures (not-true _ c.if-not-sound_values.true))
+    by_parts c.args.bench.now c.args.maker.now c.args.count c.args.values.now c.if-values-count.false
+    (parts_fail 128 (sound_values _ _) _ _ c.loop-i.invariant c.loop-i-test.true c.sound_values.ensures c.if-not-sound_values.true)
 
 pub loop-i-preserved : goal.loop-i-preserved
 loop-i-preserved c =
-    let n = c.before.before.before in
-    parts_pass 128 (sound_values _ _) _ _ n.before.loop-i.invariant n.loop-i-test.true c.before.sound_values.ensures (not-false _ c.if-not-sound_values.false)
+    parts_pass 128 (sound_values _ _) _ _ c.loop-i.invariant c.loop-i-test.true c.sound_values.ensures c.if-not-sound_values.false
 
 pub returns : goal.returns
-returns c = by_parts c.before.before (parts_end 128 (sound_values _ _) _ _ c.before.loop-i.invariant c.loop-i-test.false)
+returns c =
+    by_parts c.args.bench.now c.args.maker.now c.args.count c.args.values.now c.if-values-count.false
+    (parts_end 128 (sound_values _ _) _ _ c.loop-i.invariant c.loop-i-test.false)

@@ -1,7 +1,9 @@
 -- `bus::sound_rows` meets its contract. The loop's invariant: the first i rows passed. Assumes nothing.
 use mathlib.Core.Path.{◌≡◌, refl, sym, ap, ◌∙◌}
 use mathlib.Core.Bool.{Bool, ◌&&◌}
-use Prim.Native.Nat.{◌-◌, ◌%◌}
+use mathlib.Core.List.{List}
+use Prim.Native.Nat.{◌%◌}
+use lib.IntN.{ℤ}
 use native.Mathlib.Omega.{arith}
 use borrow.Author.Rules.{rules}
 use borrow.Author.Tests.{eq-eqb, ne_eqb, not-true, not-false}
@@ -44,19 +46,15 @@ pub loop-i-smaller : goal.loop-i-smaller
 loop-i-smaller c = omega arith
 
 -- there are whole rows alone, so the rows decide
-by_rows : (e : goal.Else-numbers-ne0 invariant-loop-i decreases-loop-i) {b : Bool} → b ≡ every sound_card_row (rows_in e.before.args.numbers.now) → b ≡ eqb (length e.before.args.numbers.now % 23) 0 && every sound_card_row (rows_in e.before.args.numbers.now)
-by_rows e q = q ∙ sym (ap (λ (x : Bool). x && every sound_card_row (rows_in e.before.args.numbers.now)) (eq-eqb _ _ e.if-numbers-ne0.false))
+by_rows : (numbers : List ℤ) → length numbers % 23 ≡ 0 → {b : Bool} → b ≡ every sound_card_row (rows_in numbers) → b ≡ eqb (length numbers % 23) 0 && every sound_card_row (rows_in numbers)
+by_rows numbers e q = q ∙ sym (ap (λ (x : Bool). x && every sound_card_row (rows_in numbers)) (eq-eqb _ _ e))
 
 pub returns-then-not-is_sound : goal.returns-then-not-is_sound
 returns-then-not-is_sound c =
-    let n = c.before.before.before in
-    let l = n.before in
-    by_rows l.before (parts_fail 23 sound_card_row _ _ l.loop-i.invariant n.loop-i-test.true c.before.is_sound.ensures (not-true _ c.if-not-is_sound.true))
+    by_rows c.args.numbers.now c.if-numbers-ne0.false (parts_fail 23 sound_card_row _ _ c.loop-i.invariant c.loop-i-test.true c.is_sound.ensures c.if-not-is_sound.true)
 
 pub loop-i-preserved : goal.loop-i-preserved
-loop-i-preserved c =
-    let n = c.before.before.before in
-    parts_pass 23 sound_card_row _ _ n.before.loop-i.invariant n.loop-i-test.true c.before.is_sound.ensures (not-false _ c.if-not-is_sound.false)
+loop-i-preserved c = parts_pass 23 sound_card_row _ _ c.loop-i.invariant c.loop-i-test.true c.is_sound.ensures c.if-not-is_sound.false
 
 pub returns : goal.returns
-returns c = by_rows c.before.before (parts_end 23 sound_card_row _ _ c.before.loop-i.invariant c.loop-i-test.false)
+returns c = by_rows c.args.numbers.now c.if-numbers-ne0.false (parts_end 23 sound_card_row _ _ c.loop-i.invariant c.loop-i-test.false)

@@ -11,4 +11,4 @@ returns-then-address-gt255 c = simp (lt-leb _ _ c.if-address-gt255.true)
 
 pub returns : goal.returns
 unfolding asked
-returns c = simp (le-leb _ _ c.before.if-address-gt255.false, c.body_of.ensures, rd-is c.before.before.ranges.number)
+returns c = simp (le-leb _ _ c.if-address-gt255.false, c.body_of.ensures, rd-is c.ranges.number)

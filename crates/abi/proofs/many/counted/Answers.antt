@@ -9,15 +9,12 @@ use Rattle.abi.proofs.many.counted.Goals as goal
 
 pub returns-in-Refused : goal.returns-in-Refused
 returns-in-Refused c =
-    let k = c.before.before in
-    let e = sym k.answer-1.given.1 in
-    let counts = k.before.before.before.args.counts.now in
+    let e = sym c.in-Refused.is in
+    let counts = c.args.counts.now in
     (wide_ok c.minus_number.result c.minus_number.type_inv ∙ c.minus_number.ensures ∙ ap (λ (r : RunAnswer). run_result (run_outcome r)) e, ap (λ (r : RunAnswer). counts_after (run_outcome r) counts) e)
 
 pub returns-in-Took : goal.returns-in-Took
 returns-in-Took c =
-    let p = c.before.before in
-    let k = p.before.before.before in
-    let e = sym k.answer-in-Took-1.given.1 in
-    let counts = k.before.before.before.args.counts.now in
-    (ap (λ (r : RunAnswer). run_result (run_outcome r)) e, p.put_counts.ensures ∙ ap (λ (r : RunAnswer). counts_after (run_outcome r) counts) e)
+    let e = sym c.in-Took.is in
+    let counts = c.args.counts.now in
+    (ap (λ (r : RunAnswer). run_result (run_outcome r)) e, c.put_counts.ensures ∙ ap (λ (r : RunAnswer). counts_after (run_outcome r) counts) e)

@@ -13,21 +13,16 @@ pub returns-then-counts-lt2 : goal.returns-then-counts-lt2
 unfolding kav_bus_run
 returns-then-counts-lt2 c =
     let f = c.without_room in
-    let k = c.before in
-    let d = k.before.before.before in
-    let a = d.before.before.before.before.args in
-    rw (lt-ltb _ _ d.if-counts-lt2.true)
-    (ap (λ (z : ℤ). many_words z a.cards.now a.values.now a.out.now a.counts.now) (wide_ok f.result f.type_inv ∙ f.ensures ∙ ap too_short k.check.ensures))
+    let a = c.args in
+    rw (lt-ltb _ _ c.if-counts-lt2.true)
+    (ap (λ (z : ℤ). many_words z a.cards.now a.values.now a.out.now a.counts.now) (wide_ok f.result f.type_inv ∙ f.ensures ∙ ap too_short c.check.ensures))
 
 pub returns : goal.returns
 unfolding kav_bus_run
 returns c =
-    let n = c.before.before in
-    let f = n.counted in
-    let r = n.before.before.before.before.before.before in
-    let d = r.before.before.before.before in
-    let a = d.before.before.before.before.args in
-    let left : RowsAfter = record { numbers = r.run.new.0; outcome = run_outcome r.run.result; values = r.run.new.1.1.1.0; buffer = r.run.new.1.1.1.1.1.0 } in
-    rw (le-ltb _ _ d.if-counts-lt2.false)
-    ((λ i. many_words ((wide_ok f.result f.type_inv ∙ f.ensures.0) i) left.numbers left.values-1 left.buffer (f.ensures.1 i))
-    ∙ ap (bus_on a.counts.now) r.run.ensures)
+    let f = c.counted in
+    let a = c.args in
+    let left : RowsAfter = record { numbers = c.run.new.numbers; outcome = run_outcome c.run.result; values = c.run.new.values; buffer = c.run.new.out } in
+    rw (le-ltb _ _ c.if-counts-lt2.false)
+    ((λ i. many_words ((wide_ok f.result f.type_inv ∙ f.ensures.0) i) left.numbers left.values left.buffer (f.ensures.1 i))
+    ∙ ap (bus_on a.counts.now) c.run.ensures)

@@ -1,8 +1,8 @@
 -- `abi::model::give` meets its contract: number 5 where a list does not fit, otherwise three copies and the count. Assumes nothing.
 use mathlib.Core.Path.{◌≡◌}
-use mathlib.Core.Bool.{Bool, ◌&&◌, true}
+use mathlib.Core.Bool.{Bool, ◌&&◌, true, false}
 use borrow.Author.Rules.{rules}
-use borrow.Author.Tests.{leb-true, not-true, not-false}
+use borrow.Author.Tests.{leb-true}
 use lib.Dec.{leb}
 use lib.ListN.{length}
 use Rattle.refusal.proofs.Logic.{ands}
@@ -19,14 +19,15 @@ fit s =
 
 -- what it says of the three lists, where it passes
 fits : (c : tie.Else-not-rows-sheet) → fit c.before ≡ true
-fits c = not-false (fit c.before) c.if-not-rows-sheet.false
+fits c = c.if-not-rows-sheet.false
 
 returns : tie.Need-returns-then-not-rows-sheet
 unfolding given_into
 returns c =
     let s = c.before.before in
     let a = s.args in
-    rw (not-true (fit s) c.before.if-not-rows-sheet.true, wide_ok c.minus_number.result c.minus_number.type_inv, c.minus_number.ensures)
+    let e : fit s ≡ false = c.before.if-not-rows-sheet.true in
+    rw (e, wide_ok c.minus_number.result c.minus_number.type_inv, c.minus_number.ensures)
 
 copy-requires : tie.Need-copy-requires
 copy-requires c κs = let e = fits c.before in leb-true _ _ (search ands)

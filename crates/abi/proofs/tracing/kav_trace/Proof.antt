@@ -3,7 +3,7 @@
 use mathlib.Core.Path.{◌≡◌, sym, ap, ◌∙◌}
 use mathlib.Core.Bool.{true}
 use borrow.Author.Rules.{rules}
-use borrow.Author.Tests.{not-true, not-false, lt-ltb, le-ltb}
+use borrow.Author.Tests.{lt-ltb, le-ltb}
 use lib.IntN.{ℤ}
 use Rattle.row.specs.Row.{is_row}
 use Rattle.abi.specs.Calls.{too_short}
@@ -22,7 +22,7 @@ returns c =
     let i = c.before.before in
     let a = (start i).args in
     ap (λ (z : ℤ). noted_words z a.card.now a.values.now a.out.now a.counts.now a.notes.now) (wide_ok f.result f.type_inv ∙ f.ensures)
-    ∙ sym (rw (sym i.is_row.ensures ∙ not-true _ c.before.if-not-is_row.true))
+    ∙ sym (rw (sym i.is_row.ensures ∙ c.before.if-not-is_row.true))
 
 -- the row is a card
 module _ (d : tie.After-card_of-held) where
@@ -30,7 +30,7 @@ module _ (d : tie.After-card_of-held) where
   begin = start d.before.before.before
 
   is-card : is_row begin.args.card.now ≡ true
-  is-card = sym d.before.before.before.is_row.ensures ∙ not-false _ d.before.before.if-not-is_row.false
+  is-card = sym d.before.before.before.is_row.ensures ∙ d.before.before.if-not-is_row.false
 
 returns-2 : tie.Need-returns-then-counts-lt3
 unfolding kav_trace
@@ -52,9 +52,9 @@ returns-3 c =
     let b = s.before.before.before.before in
     let d = b.before in
     let a = (begin d).args in
-    let v = s.trace.new.1.1.1 in
+    let v = s.trace.new in
     rw (wide_ok f.result f.type_inv)
-    (f.ensures v.0 v.1.1.0 v.1.1.1.0 ∙ ap (trace_on a.card.now a.counts.now) s.trace.ensures ∙ rw (d.card_of-held.ensures, is-card d, le-ltb _ _ b.if-counts-lt3.false))
+    (f.ensures v.values v.out v.notes ∙ ap (trace_on a.card.now a.counts.now) s.trace.ensures ∙ rw (d.card_of-held.ensures, is-card d, le-ltb _ _ b.if-counts-lt3.false))
 
 pub kav_trace_spec : {M : Type 1} → statement M
 kav_trace_spec = tie.close (tie.spec

@@ -14,21 +14,19 @@ use Rattle.abi.proofs.tracing.traced.Goals as goal
 
 pub returns-in-Refused : goal.returns-in-Refused
 returns-in-Refused c values out notes =
-    rw (wide_ok c.minus_number.result c.minus_number.type_inv, c.minus_number.ensures, c.before.before.answer-1.given.1)
+    rw (wide_ok c.minus_number.result c.minus_number.type_inv, c.minus_number.ensures, c.in-Refused.is)
 
 pub ran-requires : goal.ran-requires
-ran-requires c = simp length-set (omega (arith, c.before.before.before.before.before.before.requires))
+ran-requires c = simp length-set (omega (arith, c.requires))
 
 pub shape_of-counts : goal.shape_of-counts
-shape_of-counts c = c.before.before.before.ran.auto.1.1.0 ∙ simp length-set
+shape_of-counts c = c.ran.auto.counts ∙ simp length-set
 
 pub returns : goal.returns
 returns c values out notes =
-    let r = c.before.before.before in
-    let k = r.before.before.before in
-    let a = k.before.before.before.before.args in
+    let a = c.args in
     let noted : ManyWords → NotedWords = λ x. record { many = x; notes = notes } in
-    rw (wide_ok r.ran.result r.ran.type_inv)
-    (ap noted (r.ran.ensures values out)
+    rw (wide_ok c.ran.result c.ran.type_inv)
+    (ap noted (c.ran.ensures values out)
     ∙ ap (λ (x : List ℕ). noted (run_on a.row.now x (run_after a.trace.ran values out)))
-    (ap (λ (x : RunAnswer). messages_in (run_outcome x) a.trace.messages a.counts.now) (sym k.enum_told-1.given.1)))
+    (ap (λ (x : RunAnswer). messages_in (run_outcome x) a.trace.messages a.counts.now) (sym c.in_default.is)))

@@ -43,17 +43,13 @@ loop-i-smaller c = omega arith
 
 pub returns-then-not-same_open : goal.returns-then-not-same_open
 returns-then-not-same_open c =
-    let s = c.before in
-    let n = s.before.before.before in
-    let p = n.before.before.args.pending in
-    parts_fail 23 (holds p) _ _ n.before.loop-i.invariant n.loop-i-test.true (s.same_open.ensures ∙ ap (same_open p) s.before.open_in.ensures) (not-true _ c.if-not-same_open.true)
+    let p = c.args.pending in
+    parts_fail 23 (holds p) _ _ c.loop-i.invariant c.loop-i-test.true (c.same_open.ensures ∙ ap (same_open p) c.open_in.ensures) c.if-not-same_open.true
 
 pub loop-i-preserved : goal.loop-i-preserved
 loop-i-preserved c =
-    let s = c.before in
-    let n = s.before.before.before in
-    let p = n.before.before.args.pending in
-    parts_pass 23 (holds p) _ _ n.before.loop-i.invariant n.loop-i-test.true (s.same_open.ensures ∙ ap (same_open p) s.before.open_in.ensures) (not-false _ c.if-not-same_open.false)
+    let p = c.args.pending in
+    parts_pass 23 (holds p) _ _ c.loop-i.invariant c.loop-i-test.true (c.same_open.ensures ∙ ap (same_open p) c.open_in.ensures) c.if-not-same_open.false
 
 pub returns : goal.returns
-returns c = parts_end 23 (holds _) _ _ c.before.loop-i.invariant c.loop-i-test.false
+returns c = parts_end 23 (holds _) _ _ c.loop-i.invariant c.loop-i-test.false

@@ -27,25 +27,17 @@ overflow_add-i-in-loop-i c = omega arith
 pub loop-i-smaller : goal.loop-i-smaller
 loop-i-smaller c = omega arith
 
--- there are 32
-enough : (s : goal.Start invariant-loop-i decreases-loop-i) → s.args.count ≤ length s.args.t1
-enough s = omega (arith, s.well_formed.0.1.0.1)
-
 pub returns-then-not-differs : goal.returns-then-not-differs
 returns-then-not-differs c =
-    let o = c.before.before in
-    let l = o.before.before in
-    let s = l.before in
-    apart_fails s.args.t1 s.args.count (enough s) l.loop-i.invariant _ o.before.loop-i-test.true (sym c.before.differs.ensures ∙ not-true _ c.if-not-differs.true)
+    let enough : c.args.count ≤ length c.args.setups = omega arith in
+    apart_fails c.args.setups c.args.count enough c.loop-i.invariant _ c.loop-i-test.true (sym c.differs.ensures ∙ c.if-not-differs.true)
 
 pub loop-i-preserved : goal.loop-i-preserved
 loop-i-preserved c =
-    let o = c.before.before in
-    let l = o.before.before in
-    let s = l.before in
-    apart_more s.args.t1 s.args.count (enough s) l.loop-i.invariant _ o.before.loop-i-test.true (sym c.before.differs.ensures ∙ not-false _ c.if-not-differs.false)
+    let enough : c.args.count ≤ length c.args.setups = omega arith in
+    apart_more c.args.setups c.args.count enough c.loop-i.invariant _ c.loop-i-test.true (sym c.differs.ensures ∙ c.if-not-differs.false)
 
 pub returns : goal.returns
 returns c =
-    let s = c.before.before in
-    apart_ends s.args.t1 s.args.count (enough s) c.before.loop-i.invariant c.loop-i-test.false
+    let enough : c.args.count ≤ length c.args.setups = omega arith in
+    apart_ends c.args.setups c.args.count enough c.loop-i.invariant c.loop-i-test.false

@@ -26,27 +26,19 @@ overflow_add-j c = omega arith
 pub loop-j-smaller : goal.loop-j-smaller
 loop-j-smaller c = omega arith
 
--- there are 32
-enough : (s : goal.Start invariant-loop-j decreases-loop-j) → s.args.count ≤ length s.args.t1
-enough s = omega (arith, s.well_formed.0.1.0.1)
-
 pub returns-then-setup-other : goal.returns-then-setup-other
 unfolding alike
 returns-then-setup-other c =
-    let o = c.before.before.before.before.before in
-    let l = o.before.before in
-    let s = l.before in
-    differs_fails s.args.t1 s.args.count (enough s) s.args.setup s.args.from l.loop-j.invariant _ o.before.loop-j-test.true c.if-setup-other.true
+    let enough : c.args.count ≤ length c.args.setups = omega arith in
+    differs_fails c.args.setups c.args.count enough c.args.setup c.args.from c.loop-j.invariant _ c.loop-j-test.true c.if-setup-other.true
 
 pub loop-j-preserved : goal.loop-j-preserved
 unfolding alike
 loop-j-preserved c =
-    let o = c.before.before.before.before.before in
-    let l = o.before.before in
-    let s = l.before in
-    differs_more s.args.t1 s.args.count (enough s) s.args.setup s.args.from l.loop-j.invariant _ o.before.loop-j-test.true c.if-setup-other.false
+    let enough : c.args.count ≤ length c.args.setups = omega arith in
+    differs_more c.args.setups c.args.count enough c.args.setup c.args.from c.loop-j.invariant _ c.loop-j-test.true c.if-setup-other.false
 
 pub returns : goal.returns
 returns c =
-    let s = c.before.before in
-    differs_ends s.args.t1 s.args.count (enough s) s.args.setup s.args.from c.before.loop-j.invariant c.loop-j-test.false
+    let enough : c.args.count ≤ length c.args.setups = omega arith in
+    differs_ends c.args.setups c.args.count enough c.args.setup c.args.from c.loop-j.invariant c.loop-j-test.false

@@ -8,20 +8,14 @@ use Rattle.bus.proofs.pair.meant_by.Goals as goal
 
 pub returns-in_default : goal.returns-in_default
 unfolding meant_by
-returns-in_default c = ap (meant_by c.before.before.before.args.table.now) (sym c.enum_told-1.given.1)
+returns-in_default c = ap (meant_by c.args.table.now) (sym c.in_default.is)
 
 pub returns-then-at-table : goal.returns-then-at-table
 unfolding meant_by
 returns-then-at-table c =
-    let s = c.before.before in
-    let k = s.before in
-    let a = k.before.before.before.before.args in
-    ap (λ (n : ℕ). get_or a.table.now n 0) s.slot-at.ensures.0 ∙ ap (meant_by a.table.now) (sym k.before.parsed-1.given.1)
+    ap (λ (n : ℕ). get_or c.args.table.now n 0) c.slot-at.ensures.0 ∙ ap (meant_by c.args.table.now) (sym c.in-Heard.is)
 
 pub returns-else-at-table : goal.returns-else-at-table
 unfolding meant_by
 returns-else-at-table c =
-    let s = c.before in
-    let k = s.before in
-    let a = k.before.before.before.before.args in
-    sym (get_or-eq_default a.table.now 0 c.if-at-table.false) ∙ ap (λ (n : ℕ). get_or a.table.now n 0) s.slot-at.ensures.0 ∙ ap (meant_by a.table.now) (sym k.before.parsed-1.given.1)
+    sym (get_or-eq_default c.args.table.now 0 c.if-at-table.false) ∙ ap (λ (n : ℕ). get_or c.args.table.now n 0) c.slot-at.ensures.0 ∙ ap (meant_by c.args.table.now) (sym c.in-Heard.is)

@@ -43,10 +43,7 @@ loop-i-smaller c = omega arith
 
 pub loop-i-preserved : goal.loop-i-preserved
 loop-i-preserved c =
-    let k = c.before in
-    let n = k.before.before in
-    let s = n.before.before in
-    made_more setup_in _ _ _ n.before.loop-i.invariant n.loop-i-test.true s.requires.0 (ap (λ (x : Card). x.setup-1) k.card_of-held.ensures)
+    made_more setup_in _ _ _ c.loop-i.invariant c.loop-i-test.true c.requires.0 (ap (λ (x : Card). x.setup) c.card_of-held.ensures)
 
 pub returns : goal.returns
-returns c = made_ends setup_in _ _ _ c.before.loop-i.invariant c.loop-i-test.false
+returns c = made_ends setup_in _ _ _ c.loop-i.invariant c.loop-i-test.false

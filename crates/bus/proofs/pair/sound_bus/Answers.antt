@@ -15,20 +15,17 @@ use Rattle.bus.proofs.Checks.{no_rows, too_many, by_rows}
 use Rattle.bus.proofs.pair.sound_bus.Goals as goal
 
 pub returns-then-count-eq0 : goal.returns-then-count-eq0
-returns-then-count-eq0 c = sym (no_rows c.before.args.numbers.now c.if-count-eq0.true)
+returns-then-count-eq0 c = sym (no_rows c.args.numbers.now c.if-count-eq0.true)
 
 pub returns-then-count-gt-MOST_CARDS : goal.returns-then-count-gt-MOST_CARDS
-returns-then-count-gt-MOST_CARDS c = sym (too_many c.before.before.args.numbers.now c.if-count-gt-MOST_CARDS.true)
+returns-then-count-gt-MOST_CARDS c = sym (too_many c.args.numbers.now c.if-count-gt-MOST_CARDS.true)
 
 pub slice_bounds-open_in-end : goal.slice_bounds-open_in-end
-slice_bounds-open_in-end c = let z = c.before in sym (length-take-le 23 z.before.before.args.numbers.now (omega (arith, z.before.if-count-eq0.false)))
+slice_bounds-open_in-end c = sym (length-take-le 23 c.args.numbers.now (omega (arith, c.if-count-eq0.false)))
 
 pub returns : goal.returns
 returns c =
-    let a = c.before in
-    let o = a.before.before in
-    let z = o.before.before in
-    let numbers = z.before.before.args.numbers.now in
-    ap₂ ◌&&◌ (a.are_apart.ensures ∙ ap apart a.before.setups_of.ensures)
-    (c.all_hold.ensures ∙ ap (λ (p : Pending). every (λ (x : List ℤ). same_open p (pending_in x)) (rows_in numbers)) o.open_in-pending.ensures)
-    ∙ by_rows numbers (omega (arith, z.before.if-count-eq0.false)) z.if-count-gt-MOST_CARDS.false
+    let numbers = c.args.numbers.now in
+    ap₂ ◌&&◌ (c.are_apart.ensures ∙ ap apart c.setups_of.ensures)
+    (c.all_hold.ensures ∙ ap (λ (p : Pending). every (λ (x : List ℤ). same_open p (pending_in x)) (rows_in numbers)) c.open_in-pending.ensures)
+    ∙ by_rows numbers (omega (arith, c.if-count-eq0.false)) c.if-count-gt-MOST_CARDS.false

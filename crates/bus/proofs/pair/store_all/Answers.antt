@@ -25,24 +25,19 @@ use Rattle.bus.proofs.pair.store_all.Goals as goal
 abbrev no_setup : Setup
 no_setup = record { letter = 0; address = 0; count = 0; scan = []; revision = 0 }
 
-module _ (s : goal.Start invariant-loop-i decreases-loop-i) where
-  abbrev setups : List Setup
-  setups = s.args.t1
+-- the cards to store are as many
+module _ (count : ℕ) (pending : Pending) (setups : List Setup) (offers : List Offer) (l : count ≤ length setups) (m : count ≤ length offers) where
+  same_count : length (take count setups) ≡ length (take count offers)
+  same_count = length-take-le count setups l ∙ sym (length-take-le count offers m)
 
-  abbrev offers : List Offer
-  offers = s.args.t2
+  count_is : length (cards_to count pending setups offers) ≡ count
+  count_is = cards_count pending (take count setups) (take count offers) same_count ∙ length-take-le count setups l
 
-  abbrev cards : List Card
-  cards = cards_to s.args.count s.args.pending setups offers
-
-  setups-count : length (take s.args.count setups) ≡ s.args.count
-  setups-count = length-take-le s.args.count setups (omega (arith, s.good.0.1.0.1, s.requires.0))
-
-  offers-count : length (take s.args.count offers) ≡ s.args.count
-  offers-count = length-take-le s.args.count offers (omega (arith, s.good.1.0.1.0.1, s.requires.0))
-
-  count-is : length cards ≡ s.args.count
-  count-is = cards_count s.args.pending (take s.args.count setups) (take s.args.count offers) (setups-count ∙ sym offers-count) ∙ setups-count
+  -- the i-th of them
+  card_at : (i : ℕ) (s : Setup) (o : Offer) (d : Card) → i < count → get_or (cards_to count pending setups offers) i d ≡ record { setup = get_or setups i s; pending = pending; offer = get_or offers i o }
+  card_at i s o d h =
+      cards_at pending (take count setups) (take count offers) i s o d (omega (arith, length-take-le count setups l)) same_count
+      ∙ (λ j. record { setup = get_or-take count setups i s h j; pending = pending; offer = get_or-take count offers i o h j })
 
 pub loop-i-init : goal.loop-i-init
 unfolding stored_back
@@ -77,8 +72,7 @@ slice_bounds-store-start c = omega arith
 
 pub slice_bounds-store-end : goal.slice_bounds-store-end
 slice_bounds-store-end c =
-    let l = c.before.before.before in
-    omega (arith, l.loop-i.invariant.long, l.before.requires.1)
+    omega (arith, c.loop-i.invariant.long, c.requires.1)
 
 pub overflow_add-i : goal.overflow_add-i
 overflow_add-i c = omega arith
@@ -88,29 +82,29 @@ loop-i-smaller c = omega arith
 
 pub loop-i-preserved : goal.loop-i-preserved
 loop-i-preserved c =
-    let k = c.before in
-    let n = k.before.before.before.before in
-    let l = n.before in
-    let s = l.before in
-    let i = l.loop-i.i in
-    let h : i < s.args.count = n.loop-i-test.true in
-    let d : Card = record { setup = get_or (setups s) i no_setup; pending = s.args.pending; offer = get_or (offers s) i Nothing } in
-    let b : i < length (cards s) = omega (arith, count-is s) in
-    let r : length (cards s) * 23 ≤ length s.args.numbers.now = omega (arith, count-is s, s.requires.1) in
-    let held : get_or (cards s) i d ≡ d =
-    cards_at s.args.pending (take s.args.count (setups s)) (take s.args.count (offers s)) i no_setup Nothing d (omega (arith, setups-count s)) (setups-count s ∙ sym (offers-count s))
-    ∙ (λ j. record { setup = get_or-take s.args.count (setups s) i no_setup h j; pending = s.args.pending; offer = get_or-take s.args.count (offers s) i Nothing h j }) in
-    let now : put_part 23 i k.store.new.1.0 l.loop-i.numbers ≡ stored_back (take (i + 1) (cards s)) s.args.numbers.now =
-    ap (λ (part : List ℤ). put_part 23 i part l.loop-i.numbers) (k.store.ensures ∙ ap (λ (x : Card). stored_in x (lent_part 23 i l.loop-i.numbers)) (sym held))
-    ∙ ap (λ (x : List ℤ). put_part 23 i (stored_in (get_or (cards s) i d) (lent_part 23 i x)) x) l.loop-i.invariant.so_far
-    ∙ rw (add-one i) (back_more (cards s) i s.args.numbers.now d b r) in
-    record { within = omega arith; long = ap length now ∙ back_length (take (i + 1) (cards s)) s.args.numbers.now (omega (arith, length-take-le (i + 1) (cards s) (omega arith))); so_far = now }
+    let i = c.loop-i.i in
+    let a = c.args in
+    let e : a.count ≤ length a.setups = omega arith in
+    let f : a.count ≤ length a.offers = omega arith in
+    let h : i < a.count = c.loop-i-test.true in
+    let cards : List Card = cards_to a.count a.pending a.setups a.offers in
+    let count : length cards ≡ a.count = count_is a.count a.pending a.setups a.offers e f in
+    let d : Card = record { setup = get_or a.setups i no_setup; pending = a.pending; offer = get_or a.offers i Nothing } in
+    let b : i < length cards = omega (arith, count) in
+    let r : length cards * 23 ≤ length a.numbers.now = omega (arith, count, c.requires.1) in
+    let held : get_or cards i d ≡ d = card_at a.count a.pending a.setups a.offers e f i no_setup Nothing d h in
+    let now : put_part 23 i c.store.new.row c.loop-i.numbers ≡ stored_back (take (i + 1) cards) a.numbers.now =
+    ap (λ (part : List ℤ). put_part 23 i part c.loop-i.numbers) (c.store.ensures ∙ ap (λ (x : Card). stored_in x (lent_part 23 i c.loop-i.numbers)) (sym held))
+    ∙ ap (λ (x : List ℤ). put_part 23 i (stored_in (get_or cards i d) (lent_part 23 i x)) x) c.loop-i.invariant.so_far
+    ∙ rw (add-one i) (back_more cards i a.numbers.now d b r) in
+    record { within = omega arith; long = ap length now ∙ back_length (take (i + 1) cards) a.numbers.now (omega (arith, length-take-le (i + 1) cards (omega arith))); so_far = now }
 
 pub shape_of-numbers : goal.shape_of-numbers
-shape_of-numbers c = c.before.loop-i.invariant.long
+shape_of-numbers c = c.loop-i.invariant.long
 
 pub returns : goal.returns
 returns c =
-    let l = c.before in
-    let s = l.before in
-    l.loop-i.invariant.so_far ∙ ap (λ (cs : List Card). stored_back cs s.args.numbers.now) (take_all l.loop-i.i (cards s) (omega (arith, count-is s, c.loop-i-test.false)))
+    let a = c.args in
+    let cards : List Card = cards_to a.count a.pending a.setups a.offers in
+    let count : length cards ≡ a.count = count_is a.count a.pending a.setups a.offers (omega arith) (omega arith) in
+    c.loop-i.invariant.so_far ∙ ap (λ (cs : List Card). stored_back cs a.numbers.now) (take_all c.loop-i.i cards (omega (arith, count, c.loop-i-test.false)))

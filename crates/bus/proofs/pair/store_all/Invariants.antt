@@ -30,7 +30,7 @@ pub record Back (cards : List Card) (numbers₀ numbers : List ℤ) (i : ℕ) : 
   pub so_far : numbers ≡ stored_back (take i cards) numbers₀
 
 abbrev pub invariant-loop-i : goal.invariant-loop-i
-invariant-loop-i l = Back (cards_to l.count l.pending l.setups l.offers) l.initial.numbers l.numbers-1 l.i
+invariant-loop-i l = Back (cards_to l.count l.pending l.setups l.offers) l.initial.numbers l.numbers l.i
 
 abbrev pub decreases-loop-i : goal.decreases-loop-i
 decreases-loop-i l = l.count - l.i

@@ -29,20 +29,20 @@ returns c =
     ended-nobody (numbers s) (bench s) (maker s) (values₀ s) (words s) (out₀ s) c.if-count-eq0.true (omega (arith, values-long s, c.if-count-eq0.true))
 
 setups-of-requires : tie.Need-setups_of-setups-requires Inv-loop μ-loop
-setups-of-requires c κs = (at_most c.before.before.before.before, omega arith)
+setups-of-requires c κs = (at_most c.before.before.before, omega arith)
 
 offers-of-requires : tie.Need-offers_of-offers-requires Inv-loop μ-loop
-offers-of-requires c κs = (at_most c.before.before.before.before.before.before, omega arith)
+offers-of-requires c κs = (at_most (start c), omega arith)
 
 table-of-requires : tie.Need-table_of-table-requires Inv-loop μ-loop
-table-of-requires c κs = let u = c.before.before in (some u, at_most (start u), sound u, are-apart u)
+table-of-requires c κs = let u = c.before in (some u, at_most (start u), sound u, are-apart u)
 
 slice-reshare-prefix-open-in : tie.Need-slice_bounds-open_in-end Inv-loop μ-loop
-slice-reshare-prefix-open-in c = omega (arith, some c.before.before.before.before.before)
+slice-reshare-prefix-open-in c = omega (arith, some c.before.before.before.before)
 
 slice-aggregate-open-in : tie.Need-slice_bounds-open_in-end-2 Inv-loop μ-loop
 slice-aggregate-open-in c =
-    let u = c.before.before.before.before.before.before in
+    let u = c.before.before.before.before in
     sym (length-take-le 23 (numbers (start u)) (omega (arith, some u)))
 
 loop-holds : tie.Need-loop-halt-init Inv-loop μ-loop
@@ -92,7 +92,7 @@ finish-requires : tie.Need-finish-requires Inv-loop μ-loop
 finish-requires c κs = let l = stood c.before in (at_most (s (begin l)), rows-lent l)
 
 same_length : tie.Need-shape_of-numbers-in_default Inv-loop μ-loop
-same_length c = c.before.finish.auto.1.1.1.1.1.1.0 ∙ ap length (stood c.before.before.before).loop-halt.invariant.5
+same_length c = c.before.finish.auto.numbers ∙ ap length (stood c.before.before.before).loop-halt.invariant.5
 
 same-length-2 : tie.Need-shape_of-values-in_default Inv-loop μ-loop
 same-length-2 c = let e = c.before.before.before in ap length (unchanged e) ∙ (stood e).loop-halt.invariant.3
@@ -108,11 +108,11 @@ returns-2 c =
     let l = stood e in
     let t = begin l in
     let u = undone e in
-    (λ i. record { numbers = f.finish.new.1.1.1.1.1.1.0; outcome = run_outcome f.finish.result; values = unchanged e i; buffer = u.unsaid.leaves i })
+    (λ i. record { numbers = f.finish.new.numbers; outcome = run_outcome f.finish.result; values = unchanged e i; buffer = u.unsaid.leaves i })
     ∙ stops t (os l) l.loop-halt.values (reached l) l.loop-halt.out l.loop-halt.at l.loop-halt.invariant.0
     (no_room (takes t) (all t) (out₀ (s t)) (words (s t)) (here l) l.loop-halt.out l.loop-halt.at l.loop-halt.halt.at l.loop-halt.invariant.0
     (leads v) (is-turn v) (in_words (meaning v)) (omega (arith, u.unsaid.short, ap (λ (y : Effect). length (reply_of y.said)) (is-effect v), l.loop-halt.invariant.0.filling.long)))
-    (os-count l) l.loop-halt.invariant.3 f.finish.result f.finish.new.1.1.1.1.1.1.0 f.finish.ensures.0
+    (os-count l) l.loop-halt.invariant.3 f.finish.result f.finish.new.numbers f.finish.ensures.0
     (f.finish.ensures.1 ∙ ap (stored_back (cards_with (reached l).pending (ss t) (os l))) l.loop-halt.invariant.5)
 
 mul-offers : tie.Need-offset_bounds-offers-k-in-loop-halt Inv-loop μ-loop
@@ -124,7 +124,7 @@ array-set-from-offers c = omega (arith, k-small (meaning (settled c)), (stands c
 add-to-close : tie.Need-overflow_add-halt Inv-loop μ-loop
 add-to-close c =
     let v = settled c.before.before in
-    omega (arith, in_words (meaning v), (s (b v)).good.1.1.1.1.0)
+    omega (arith, in_words (meaning v), (s (b v)).well_formed.1.1.1.1.0)
 
 -- the words behind it are taken up to the next that closes a message
 module _ (c : tie.After-to_close-halt-in-loop-halt Inv-loop μ-loop) where
@@ -141,13 +141,13 @@ module _ (c : tie.After-to_close-halt-in-loop-halt Inv-loop μ-loop) where
   from = (loop turning).loop-halt.halt.at + 1
 
   abbrev next : Reached
-  next = reached_of c.to_close-halt-in-loop-halt.new.0 c.to_close-halt-in-loop-halt.result
+  next = reached_of c.to_close-halt-in-loop-halt.new.chars c.to_close-halt-in-loop-halt.result
 
   is-next : next ≡ to_close none (drop from text) from
   unfolding none
   is-next = ap₂ reached_of c.to_close-halt-in-loop-halt.ensures.1 c.to_close-halt-in-loop-halt.ensures.0
 
-  ten : length c.to_close-halt-in-loop-halt.new.0 ≡ 10
+  ten : length c.to_close-halt-in-loop-halt.new.chars ≡ 10
   unfolding none
   ten = ap length c.to_close-halt-in-loop-halt.ensures.1 ∙ reached_long text none from refl
 
@@ -157,7 +157,7 @@ module _ (c : tie.After-to_close-halt-in-loop-halt Inv-loop μ-loop) where
 add_at : tie.Need-overflow_add-at Inv-loop μ-loop
 add_at c =
     let l = loop (turning c) in
-    omega (arith, fits (answered c), l.loop-halt.invariant.0.filling.long, (s (begin l)).good.1.1.1.1.1.0)
+    omega (arith, fits (answered c), l.loop-halt.invariant.0.filling.long, (s (begin l)).well_formed.1.1.1.1.1.0)
 
 loop-less : tie.Need-loop-halt-smaller Inv-loop μ-loop
 loop-less c = omega (arith, in_words (meaning (turning c)), behind c)
@@ -181,8 +181,8 @@ loop-again c =
           (came v).buffer (l.loop-halt.at + n q) (i + 1) stands-there (next c) (is-next c),
       subst (Closes (words (s t))) (sym (is-next c)) (reached_hears (words (s t)) none (i + 1)),
       ten c,
-      put_length 128 (j v) (came v).values-1 (values v) (part-long q) (omega (arith, k-in (meaning v), long l)) ∙ l.loop-halt.invariant.3,
-      length-set l.loop-halt.offers (j v) (effect v).offer-1 ∙ l.loop-halt.invariant.4,
+      put_length 128 (j v) (came v).values (values v) (part-long q) (omega (arith, k-in (meaning v), long l)) ∙ l.loop-halt.invariant.3,
+      length-set l.loop-halt.offers (j v) (effect v).offer ∙ l.loop-halt.invariant.4,
       l.loop-halt.invariant.5,
     )
 
@@ -190,7 +190,7 @@ finish-requires-2 : tie.Need-finish-requires-2 Inv-loop μ-loop
 finish-requires-2 c κs = let l = c.before.before.before in (at_most (s (begin l)), rows-lent l)
 
 same-length-4 : tie.Need-shape_of-numbers Inv-loop μ-loop
-same-length-4 c = c.before.finish-2.auto.1.1.1.1.1.1.0 ∙ ap length c.before.before.before.before.before.loop-halt.invariant.5
+same-length-4 c = c.before.finish-2.auto.numbers ∙ ap length c.before.before.before.before.before.loop-halt.invariant.5
 
 same-length-5 : tie.Need-shape_of-values Inv-loop μ-loop
 same-length-5 c = c.before.before.before.before.before.loop-halt.invariant.3
@@ -206,7 +206,7 @@ returns-3 c =
     let t = begin l in
     stops t (os l) l.loop-halt.values (reached l) l.loop-halt.out l.loop-halt.at l.loop-halt.invariant.0
     (ends (takes t) (all t) (out₀ (s t)) (words (s t)) (here l) l.loop-halt.out l.loop-halt.at l.loop-halt.halt.at l.loop-halt.invariant.0 z.loop-halt-test.false)
-    (os-count l) l.loop-halt.invariant.3 f.finish-2.result f.finish-2.new.1.1.1.1.1.1.0 f.finish-2.ensures.0
+    (os-count l) l.loop-halt.invariant.3 f.finish-2.result f.finish-2.new.numbers f.finish-2.ensures.0
     (f.finish-2.ensures.1 ∙ ap (stored_back (cards_with (reached l).pending (ss t) (os l))) l.loop-halt.invariant.5)
 
 pub take_all_spec : {M : Type 1} → statement M

@@ -62,7 +62,7 @@ stands_at bench maker count setups offers values r = standing bench maker (take 
 abbrev pub Closes : List ℕ → Reached → Type 0
 Closes words r = r.at < length words → hear r.pending (get_or words r.at 0) ≡ record { pending = none; message = parse (open_of r.pending) }
 
-abbrev pub Inv-loop : tie.invariant-loop
+abbrev pub Inv-loop : tie.invariant-loop-halt
 Inv-loop numbers₀ bench maker values₀ words out₀ count setups offers₀ table places chars₀ halt₀ at₀ numbers values out offers chars halt at =
     Carried (hears_all bench maker) (played_from (hears_all bench maker) out₀ words (stands_at bench maker count setups offers₀ values₀ (reached_of chars₀ halt₀)) halt₀.at) out₀ words (stands_at bench maker count setups offers values (reached_of chars halt)) out at halt.at
     × Closes words (reached_of chars halt)
@@ -71,7 +71,7 @@ Inv-loop numbers₀ bench maker values₀ words out₀ count setups offers₀ ta
     × (length offers ≡ 32)
     × (numbers ≡ numbers₀)
 
-abbrev pub μ-loop : tie.decreases-loop
+abbrev pub μ-loop : tie.decreases-loop-halt
 μ-loop numbers₀ bench maker values₀ words out₀ count setups offers₀ table places chars₀ halt₀ at₀ numbers values out offers chars halt at =
     length words - halt.at
 
@@ -99,7 +99,7 @@ module _ (s : tie.Start Inv-loop μ-loop) where
   count = length numbers / 23
 
   pub ok : Passes numbers bench maker values₀ words
-  ok = passed_sound numbers bench maker values₀ words s.pre
+  ok = passed_sound numbers bench maker values₀ words s.requires
 
   pub at_most : count ≤ 32
   at_most = few numbers ok.bus
@@ -108,41 +108,41 @@ module _ (s : tie.Start Inv-loop μ-loop) where
   values-long = values_count bench maker values₀ count ok.values_sound
 
 -- the setups of the cards
-module _ (u : tie.After-setups-of Inv-loop μ-loop) where
+module _ (u : tie.After-setups_of-setups Inv-loop μ-loop) where
   abbrev pub start : tie.Start Inv-loop μ-loop
-  start = u.before.before.before.before.before
+  start = u.before.before.before.before
 
   abbrev pub setups : List Setup
-  setups = take (count start) u.setups-of.result
+  setups = take (count start) u.setups_of-setups.result
 
   pub some : 1 ≤ count start
-  some = omega (arith, u.before.before.if1.left)
+  some = omega (arith, u.if-count-eq0.false)
 
   pub setups-count : length setups ≡ count start
-  setups-count = ap length u.setups-of.ensures ∙ length-map (rows_in (numbers start)) setup_in ∙ rows_count (numbers start)
+  setups-count = ap length u.setups_of-setups.ensures ∙ length-map (rows_in (numbers start)) setup_in ∙ rows_count (numbers start)
 
   pub sound : every sound_setup setups ≡ true
-  sound = ap (every sound_setup) u.setups-of.ensures ∙ setups_sound (numbers start) (ok start).rows
+  sound = ap (every sound_setup) u.setups_of-setups.ensures ∙ setups_sound (numbers start) (ok start).rows
 
   pub are-apart : apart setups ≡ true
-  are-apart = ap apart u.setups-of.ensures ∙ setups_apart (numbers start) (ok start).bus
+  are-apart = ap apart u.setups_of-setups.ensures ∙ setups_apart (numbers start) (ok start).bus
 
 -- the first words are taken: what is played from there is what is played from the start
-module _ (t : tie.After-to-close Inv-loop μ-loop) where
-  abbrev pub opened : tie.After-open-in Inv-loop μ-loop
+module _ (t : tie.After-to_close-halt Inv-loop μ-loop) where
+  abbrev pub opened : tie.After-open_in-pending Inv-loop μ-loop
   opened = t.before.before.before
 
-  abbrev pub indexed : tie.After-index Inv-loop μ-loop
-  indexed = opened.before.before.before
+  abbrev pub indexed : tie.After-index-index Inv-loop μ-loop
+  indexed = opened.before.before
 
-  abbrev pub tabled : tie.After-table-of Inv-loop μ-loop
+  abbrev pub tabled : tie.After-table_of-table Inv-loop μ-loop
   tabled = indexed.before
 
-  abbrev pub offering : tie.After-offers-of Inv-loop μ-loop
+  abbrev pub offering : tie.After-offers_of-offers Inv-loop μ-loop
   offering = tabled.before
 
-  abbrev pub setting : tie.After-setups-of Inv-loop μ-loop
-  setting = offering.before.before
+  abbrev pub setting : tie.After-setups_of-setups Inv-loop μ-loop
+  setting = offering.before
 
   abbrev pub s : tie.Start Inv-loop μ-loop
   s = start setting
@@ -154,34 +154,34 @@ module _ (t : tie.After-to-close Inv-loop μ-loop) where
   ss = setups setting
 
   abbrev pub os₀ : List Offer
-  os₀ = take (count s) offering.offers-of.result
+  os₀ = take (count s) offering.offers_of-offers.result
 
   abbrev pub table : List ℕ
-  table = tabled.table_of.result
+  table = tabled.table_of-table.result
 
   pub finds : Finds ss table
-  finds = tabled.table_of.ensures
+  finds = tabled.table_of-table.ensures
 
   -- with this open message
   abbrev pub p : Pending
-  p = opened.open_in.result
+  p = opened.open_in-pending.result
 
   abbrev pub hold : List Offer → List ℤ → Pending → List Instrument
   hold os values = standing (bench s) (maker s) ss os values
 
   abbrev pub first : Reached
-  first = reached_of t.to-close.last.0 t.to-close.result
+  first = reached_of t.to_close-halt.new.chars t.to_close-halt.result
 
   pub is-first : first ≡ to_close p (words s) 0
-  is-first = ap₂ reached_of t.to-close.ensures.1 t.to-close.ensures.0
+  is-first = ap₂ reached_of t.to_close-halt.ensures.1 t.to_close-halt.ensures.0
 
   abbrev pub all : Played (List Instrument)
   all = played_from takes (out₀ s) (words s) (hold os₀ (values₀ s) first.pending) first.at
 
   pub as_lent : hold os₀ (values₀ s) p ≡ instruments (cards_of (numbers s)) (values₀ s)
   as_lent =
-      ap₂ (λ (x : List Setup) (y : List Offer). instruments (cards_with p x y) (values₀ s)) setting.setups-of.ensures offering.offers-of.ensures
-      ∙ ap (λ (cs : List Card). instruments cs (values₀ s)) (cards_read p (rows_in (numbers s)) (λ k l. rows_hold (numbers s) (some setting) (ok s).bus k l ∙ sym opened.open_in.ensures))
+      ap₂ (λ (x : List Setup) (y : List Offer). instruments (cards_with p x y) (values₀ s)) setting.setups_of-setups.ensures offering.offers_of-offers.ensures
+      ∙ ap (λ (cs : List Card). instruments cs (values₀ s)) (cards_read p (rows_in (numbers s)) (λ k l. rows_hold (numbers s) (some setting) (ok s).bus k l ∙ sym opened.open_in-pending.ensures))
 
   pub is_all : playing takes (instruments (cards_of (numbers s)) (values₀ s)) (length (out₀ s)) (words s) ≡ all
   is_all =
@@ -204,68 +204,68 @@ module _ (t : tie.After-to-close Inv-loop μ-loop) where
       ∙ ended_here (numbers s) (bench s) (maker s) (values₀ s) (words s) (out₀ s) all (cards_with r.pending ss os) values back out r.at at is_all o.0 o.1 o.2 o.3 m
       (omega (arith, values-long s, n, setups-count setting))
 
-pub offers-32 : (f : tie.After-offers-of Inv-loop μ-loop) → length f.offers-of.result ≡ 32
+pub offers-32 : (f : tie.After-offers_of-offers Inv-loop μ-loop) → length f.offers_of-offers.result ≡ 32
 offers-32 f = search rules
 
-pub ten-places : (t : tie.After-chars2 Inv-loop μ-loop) → length t.before.before.open_in.result.chars ≡ 10
+pub ten-places : (t : tie.After-chars-2-1 Inv-loop μ-loop) → length t.before.before.open_in-pending.result.chars ≡ 10
 ten-places t = search rules
 
 -- where the loop stands
-module _ (l : tie.At-loop Inv-loop μ-loop) where
-  abbrev pub begin : tie.After-to-close Inv-loop μ-loop
+module _ (l : tie.At-loop-halt Inv-loop μ-loop) where
+  abbrev pub begin : tie.After-to_close-halt Inv-loop μ-loop
   begin = l.before
 
   abbrev pub reached : Reached
-  reached = reached_of l.loop.chars l.loop.halt
+  reached = reached_of l.loop-halt.chars l.loop-halt.halt
 
   abbrev pub os : List Offer
-  os = take (count (s begin)) l.loop.offers
+  os = take (count (s begin)) l.loop-halt.offers
 
   abbrev pub here : List Instrument
-  here = hold begin os l.loop.values reached.pending
+  here = hold begin os l.loop-halt.values reached.pending
 
   pub os-count : length os ≡ count (s begin)
-  os-count = length-take-le (count (s begin)) l.loop.offers (omega (arith, at_most (s begin), l.loop.inv.4))
+  os-count = length-take-le (count (s begin)) l.loop-halt.offers (omega (arith, at_most (s begin), l.loop-halt.invariant.4))
 
-  pub long : length l.loop.values ≡ count (s begin) * 128
-  long = l.loop.inv.3 ∙ values-long (s begin)
+  pub long : length l.loop-halt.values ≡ count (s begin) * 128
+  long = l.loop-halt.invariant.3 ∙ values-long (s begin)
 
 -- the card that is meant
-module _ (m : tie.After-meant-by Inv-loop μ-loop) where
-  abbrev pub at-loop : tie.At-loop Inv-loop μ-loop
+module _ (m : tie.After-meant_by-k Inv-loop μ-loop) where
+  abbrev pub at-loop : tie.At-loop-halt Inv-loop μ-loop
   at-loop = m.before.before.before.before.before.before
 
   abbrev pub parsed : Parsed
-  parsed = m.before.before.closed.result
+  parsed = m.before.before.closed-parsed.result
 
   abbrev pub k : ℕ
-  k = m.meant-by.result
+  k = m.meant_by-k.result
 
-  pub in_words : at-loop.loop.halt.at < length (words (s (begin at-loop)))
-  in_words = m.before.before.before.before.if2.taken
+  pub in_words : at-loop.loop-halt.halt.at < length (words (s (begin at-loop)))
+  in_words = m.before.before.before.before.loop-halt-test.true
 
   pub k-in : k < count (s (begin at-loop))
-  k-in = omega (arith, m.meant-by.ensures, meant_inside (ss (begin at-loop)) (table (begin at-loop)) (finds (begin at-loop)) parsed, setups-count (setting (begin at-loop)))
+  k-in = omega (arith, m.meant_by-k.ensures, meant_inside (ss (begin at-loop)) (table (begin at-loop)) (finds (begin at-loop)) parsed, setups-count (setting (begin at-loop)))
 
   pub k-small : k < 32
   k-small = omega (arith, k-in, at_most (s (begin at-loop)))
 
 -- what the message has come to at it
 module _ (v : tie.After-settle Inv-loop μ-loop) where
-  abbrev pub joined : tie.Joined3 Inv-loop μ-loop
+  abbrev pub joined : tie.Joined-is_scan Inv-loop μ-loop
   joined = v.before.before
 
-  abbrev pub meaning : tie.After-meant-by Inv-loop μ-loop
+  abbrev pub meaning : tie.After-meant_by-k Inv-loop μ-loop
   meaning = joined.before.before.before.before.before
 
-  abbrev pub loop : tie.At-loop Inv-loop μ-loop
+  abbrev pub loop : tie.At-loop-halt Inv-loop μ-loop
   loop = at-loop meaning
 
-  abbrev pub b : tie.After-to-close Inv-loop μ-loop
+  abbrev pub b : tie.After-to_close-halt Inv-loop μ-loop
   b = begin loop
 
   abbrev pub values : List ℤ
-  values = loop.loop.values
+  values = loop.loop-halt.values
 
   abbrev pub j : ℕ
   j = k meaning
@@ -275,21 +275,21 @@ module _ (v : tie.After-settle Inv-loop μ-loop) where
 
   -- as the code has it
   abbrev pub effect : Effect
-  effect = joined.if3.effect
+  effect = joined.if-is_scan.effect
 
   abbrev pub came : Settled
-  came = record { outcome = outcome_of v.settle.result; values = v.settle.last.1.0; buffer = v.settle.last.1.1.0 }
+  came = record { outcome = outcome_of v.settle.result; values = v.settle.new.values; buffer = v.settle.new.out }
 
-  pub acts : effect ≡ effect_of (bench (s b)) (maker (s b)) (get_or (setting b).setups-of.result j no_setup) (get_or loop.loop.offers j Nothing) (lent_part 128 j values) x
+  pub acts : effect ≡ effect_of (bench (s b)) (maker (s b)) (get_or (setting b).setups_of-setups.result j no_setup) (get_or loop.loop-halt.offers j Nothing) (lent_part 128 j values) x
   acts =
       let e = (ok (s b)).sheets in
       let p = and_left (sound_sheet (bench (s b))) (sound_sheet (maker (s b))) e in
       let q = and_right (sound_sheet (bench (s b))) (sound_sheet (maker (s b))) e in
       let i = joined.before in
       ⊎_elim
-      (λ w. w.3 ∙ w.2.ensures ∙ scan_leads (bench (s b)) (maker (s b)) _ _ _ _ p q (indexed b).index.ensures x (sym i.is-scan.ensures ∙ w.0.taken))
-      (λ w. w.3 ∙ w.2.ensures ∙ row_leads (bench (s b)) (maker (s b)) _ _ _ _ p q (indexed b).index.ensures x (sym i.is-scan.ensures ∙ w.0.left))
-      joined.if3.came
+      (λ w. w.effect-is ∙ w.scan_effect-effect.ensures ∙ scan_leads (bench (s b)) (maker (s b)) _ _ _ _ p q (indexed b).index-index.ensures x (sym i.is_scan.ensures ∙ w.if-is_scan.true))
+      (λ w. w.effect-is ∙ w.effect_of-effect.ensures ∙ row_leads (bench (s b)) (maker (s b)) _ _ _ _ p q (indexed b).index-index.ensures x (sym i.is_scan.ensures ∙ w.if-is_scan.false))
+      joined.if-is_scan.branch-raw
 
   pub room : length (ss b) * 128 ≤ length values
   room = omega (arith, setups-count (setting b), long loop)
@@ -306,51 +306,51 @@ module _ (v : tie.After-settle Inv-loop μ-loop) where
       let n = count (s b) in
       acts
       ∙ (λ i.
-      effect_of (bench (s b)) (maker (s b)) (sym (get_or-take n (setting b).setups-of.result j no_setup (k-in meaning)) i) (sym (get_or-take n loop.loop.offers j Nothing (k-in meaning)) i) (lent-part 128 j values i) x)
-      ∙ ap (λ (m : ℕ). effect_of (bench (s b)) (maker (s b)) (get_or (ss b) m no_setup) (get_or (os loop) m Nothing) (part_at 128 m values) x) meaning.meant-by.ensures
+      effect_of (bench (s b)) (maker (s b)) (sym (get_or-take n (setting b).setups_of-setups.result j no_setup (k-in meaning)) i) (sym (get_or-take n loop.loop-halt.offers j Nothing (k-in meaning)) i) (lent-part 128 j values i) x)
+      ∙ ap (λ (m : ℕ). effect_of (bench (s b)) (maker (s b)) (get_or (ss b) m no_setup) (get_or (os loop) m Nothing) (part_at 128 m values) x) meaning.meant_by-k.ensures
 
   abbrev pub leads : Reaction (List Instrument)
   leads = meant_turn (bench (s b)) (maker (s b)) (ss b) (os loop) values (table b) (finds b) same_count room no_setup Nothing x
 
-  pub is-turn : leads ≡ takes b (here loop) (get_or (words (s b)) loop.loop.halt.at 0)
+  pub is-turn : leads ≡ takes b (here loop) (get_or (words (s b)) loop.loop-halt.halt.at 0)
   unfolding open_of
   is-turn =
-      sym (standing_closes (bench (s b)) (maker (s b)) (ss b) (os loop) values (table b) (finds b) same_count room no_setup Nothing x (reached loop).pending (get_or (words (s b)) loop.loop.halt.at 0)
-      (loop.loop.inv.1 (in_words meaning) ∙ ap (λ (o : Parsed). record { pending = none; message = o }) (sym meaning.before.before.closed.ensures)))
+      sym (standing_closes (bench (s b)) (maker (s b)) (ss b) (os loop) values (table b) (finds b) same_count room no_setup Nothing x (reached loop).pending (get_or (words (s b)) loop.loop-halt.halt.at 0)
+      (loop.loop-halt.invariant.1 (in_words meaning) ∙ ap (λ (o : Parsed). record { pending = none; message = o }) (sym meaning.before.before.closed-parsed.ensures)))
 
 -- there is no room for the reply
-module _ (c : tie.After-enum-told Inv-loop μ-loop) where
+module _ (c : tie.In_default Inv-loop μ-loop) where
   abbrev pub unsettled : tie.After-settle Inv-loop μ-loop
-  unsettled = c.before.before.before.before.before
+  unsettled = c.before.before.before.before
 
-  abbrev pub stood : tie.At-loop Inv-loop μ-loop
+  abbrev pub stood : tie.At-loop-halt Inv-loop μ-loop
   stood = loop unsettled
 
-  pub undone : Undone (effect unsettled) (lent_part 128 (j unsettled) (values unsettled)) stood.loop.at stood.loop.out (came unsettled)
-  undone = refused_undone (effect unsettled) (lent_part 128 (j unsettled) (values unsettled)) stood.loop.at stood.loop.out (came unsettled) unsettled.settle.ensures (number_of c.enum_told.given.0.0) (ap outcome_of c.enum_told.given.1)
+  pub undone : Undone (effect unsettled) (lent_part 128 (j unsettled) (values unsettled)) stood.loop-halt.at stood.loop-halt.out (came unsettled)
+  undone = refused_undone (effect unsettled) (lent_part 128 (j unsettled) (values unsettled)) stood.loop-halt.at stood.loop-halt.out (came unsettled) unsettled.settle.ensures (number_of c.in_default.field-0) (ap outcome_of c.in_default.is)
 
   pub unchanged : put_part 128 (j unsettled) (came unsettled).values (values unsettled) ≡ values unsettled
   unchanged = ap (λ (part : List ℤ). put_part 128 (j unsettled) part (values unsettled)) undone.kept ∙ put_same 128 (j unsettled) (values unsettled)
 
 -- the rows are as lent
-pub rows-lent : (l : tie.At-loop Inv-loop μ-loop) → count (s (begin l)) * 23 ≤ length l.loop.numbers
-rows-lent l = omega (arith, ap length l.loop.invariant.5)
+pub rows-lent : (l : tie.At-loop-halt Inv-loop μ-loop) → count (s (begin l)) * 23 ≤ length l.loop-halt.numbers
+rows-lent l = omega (arith, ap length l.loop-halt.invariant.5)
 
 -- the message is answered
-module _ (q : tie.After-known-told Inv-loop μ-loop) where
+module _ (q : tie.In-Wrote Inv-loop μ-loop) where
   abbrev pub settled : tie.After-settle Inv-loop μ-loop
-  settled = q.before.before.before.before.before.before
+  settled = q.before.before.before.before
 
-  abbrev pub stands : tie.At-loop Inv-loop μ-loop
+  abbrev pub stands : tie.At-loop-halt Inv-loop μ-loop
   stands = loop settled
 
   abbrev pub n : ℕ
-  n = q.before.n.given.0.0
+  n = q.in-Wrote.n
 
-  pub done : Done (effect settled) (lent_part 128 (j settled) (values settled)) stands.loop.at stands.loop.out (came settled) n
-  done = gave_done (effect settled) (lent_part 128 (j settled) (values settled)) stands.loop.at stands.loop.out (came settled) settled.settle.ensures n (ap outcome_of q.before.n.given.1)
+  pub done : Done (effect settled) (lent_part 128 (j settled) (values settled)) stands.loop-halt.at stands.loop-halt.out (came settled) n
+  done = gave_done (effect settled) (lent_part 128 (j settled) (values settled)) stands.loop-halt.at stands.loop-halt.out (came settled) settled.settle.ensures n (ap outcome_of q.in-Wrote.is)
 
-  pub fits : stands.loop.at + n ≤ length stands.loop.out
+  pub fits : stands.loop-halt.at + n ≤ length stands.loop-halt.out
   fits = omega (arith, done.said.count, done.said.room)
 
   -- the values and the offers afterwards
@@ -358,7 +358,7 @@ module _ (q : tie.After-known-told Inv-loop μ-loop) where
   values' = put_part 128 (j settled) (came settled).values (values settled)
 
   abbrev pub offers' : List Offer
-  offers' = set stands.loop.offers (j settled) (effect settled).offer
+  offers' = set stands.loop-halt.offers (j settled) (effect settled).offer
 
   abbrev pub os' : List Offer
   os' = take (count (s (begin stands))) offers'
@@ -373,9 +373,9 @@ module _ (q : tie.After-known-told Inv-loop μ-loop) where
   is_state =
       let t = begin stands in
       let e = is-effect settled in
-      let m = (meaning settled).meant-by.ensures in
+      let m = (meaning settled).meant_by-k.ensures in
       let o : os' ≡ set (os stands) (meant_by (table t) (x settled)) (meant_one settled).offer =
-      take-set-lt (count (s t)) stands.loop.offers (j settled) (effect settled).offer (k-in (meaning settled))
+      take-set-lt (count (s t)) stands.loop-halt.offers (j settled) (effect settled).offer (k-in (meaning settled))
       ∙ ap₂ (λ (i : ℕ) (y : Offer). set (os stands) i y) m (ap (λ (y : Effect). y.offer) e) in
       let v : values' ≡ put_part 128 (meant_by (table t) (x settled)) (stored (part_at 128 (meant_by (table t) (x settled)) (values settled)) (meant_one settled).store) (values settled) =
       ap (λ (part : List ℤ). put_part 128 (j settled) part (values settled))
