@@ -6,8 +6,6 @@ use Prim.Native.Nat.{ℕ, ◌+◌, ◌-◌, ◌≤◌}
 use native.Mathlib.Omega.{arith}
 use borrow.Rule.Slice.PartMut.{mid_of, put_mid, mid_len, same_len_mid}
 use lib.ListN.{length}
-use Rattle.list.specs.declared.State.{State}
-use Rattle.list.specs.State.{Within}
 
 module _ (from n : ℕ) (out : List ℕ) (in' : from ≤ length out) (h : n ≤ length (mid_of from (length out - from) out)) where
   pub in_part : from + n ≤ length out
@@ -15,9 +13,3 @@ module _ (from n : ℕ) (out : List ℕ) (in' : from ≤ length out) (h : n ≤ 
 
   pub in_changed : (part : List ℕ) → length part ≡ length (mid_of from (length out - from) out) → from + n ≤ length (put_mid from (length out - from) out part)
   in_changed part e = omega (arith, in_part, same_len_mid from (length out - from) out part e)
-
--- what the program keeps from turn to turn
-pub record Kept (read₀ out₀ read out : List ℕ) (s : State) : Type 0 where
-  pub read_long : length read ≡ length read₀
-  pub out_long : length out ≡ length out₀
-  pub within : Within s read out

@@ -5,9 +5,9 @@
 ghost use Rattle.std.specs.Prelude.{◌≡◌, ◌+◌, ◌≤◌, length};
 ghost use Rattle.list.specs.State.{Within};
 
-use libc::{STDIN_FILENO, STDOUT_FILENO};
 use listing::{Ending, Listed, Progress, Stop};
 use refusal::Written;
+use std::io::Read;
 
 // 4,096 words.
 const BYTES: usize = 8192;
@@ -33,25 +33,38 @@ struct Reading {
     failed: bool,
 }
 
-// One read, into the buffer from a place on.
-fn read_some(bytes: &mut [u8], from: usize) -> Reading
+// One read, into the buffer from a place on. Where it fails, that is said on standard error.
+fn read_some<R: Read, E: Eprint>(
+    input: &mut R,
+    errors: &E,
+    bytes: &mut [u8],
+    from: usize,
+) -> Reading
     requires { from ≤ length bytes.old }
     ensures { (from ≤ result.count) × (result.count ≤ length bytes.new) }
 {
-    let got = libc::read(STDIN_FILENO, &mut bytes[from..]);
-    let more = io::count(got, &bytes[from..]);
-    let count = from + more;
-    let failed = got < 0;
-    Reading { count, failed }
+    match input.read(&mut bytes[from..]) {
+        Ok(more) => Reading {
+            count: from + more,
+            failed: false,
+        },
+        Err(e) => {
+            let _ = eprintln!(errors; "standard input: {e}");
+            Reading {
+                count: from,
+                failed: true,
+            }
+        }
+    }
 }
 
 // Reads until the buffer is full or the input ends: a short read is not its end.
-fn fill(bytes: &mut [u8]) -> Reading
+fn fill<R: Read, E: Eprint>(input: &mut R, errors: &E, bytes: &mut [u8]) -> Reading
     ensures { result.count ≤ length bytes.new }
 {
     let mut count = 0;
     while count < bytes.len() {
-        let some = read_some(bytes, count);
+        let some = read_some(input, errors, bytes, count);
         let failed = some.failed;
         let end = some.count;
         if failed | (end == count) {
@@ -66,51 +79,58 @@ fn fill(bytes: &mut [u8]) -> Reading
 }
 
 // Writes to standard output, or says why it can't.
-fn flush(bytes: &[u8]) -> bool {
-    let is_written = io::write_all(STDOUT_FILENO, bytes);
-    if !is_written {
-        os::fail(b"standard output");
+fn flush<P: Print + Eprint>(rt: &P, bytes: &[u8]) -> bool {
+    match rt.write_all(bytes) {
+        Ok(()) => true,
+        Err(e) => {
+            let _ = eprintln!(rt; "standard output: {e}");
+            false
+        }
     }
-    is_written
 }
 
 // Puts the last line behind what waits, and writes both.
-fn write_last(ending: Ending, used: usize, out: &mut [u8])
+fn write_last<P: Print + Eprint>(rt: &P, ending: Ending, used: usize, out: &mut [u8])
     requires { used ≤ length out.old }
 {
     let Written::Wrote(n) = listing::last(ending, &mut out[used..]) else {
         return;
     };
     let end = used + n;
-    flush(&out[..end]);
+    flush(rt, &out[..end]);
 }
 
 // The last line, in one piece with what waits where there is room for both.
-fn finish(ending: Ending, used: usize, out: &mut [u8])
+fn finish<P: Print + Eprint>(rt: &P, ending: Ending, used: usize, out: &mut [u8])
     requires { used ≤ length out.old }
 {
     if listing::LONGEST_LINE <= out.len() - used {
-        write_last(ending, used, out);
+        write_last(rt, ending, used, out);
         return;
     }
-    if flush(&out[..used]) {
-        write_last(ending, 0, out);
+    if flush(rt, &out[..used]) {
+        write_last(rt, ending, 0, out);
     }
 }
 
 // Reads the next buffer. Where that fails, what waits is written, and no last line follows.
-fn refill(state: State, bytes: &mut [u8], out: &[u8]) -> State
+fn refill<R: Read, P: Print + Eprint>(
+    input: &mut R,
+    rt: &P,
+    state: State,
+    bytes: &mut [u8],
+    out: &[u8],
+) -> State
     requires { state.used ≤ length out.now }
     ensures { Within result bytes.new out.now }
 {
     let progress = state.progress;
     let used = state.used;
-    let reading = fill(bytes);
+    let reading = fill(input, rt, bytes);
     let failed = reading.failed;
     let len = reading.count;
     if failed {
-        os::fail(b"standard input");
-        flush(&out[..used]);
+        flush(rt, &out[..used]);
     }
     State {
         progress,
@@ -145,7 +165,7 @@ fn over(progress: Progress) -> State
 }
 
 // Lists the bytes that are left of the buffer. Where the output is full, it is written, and the rest is left for the next turn.
-fn list_rest(state: State, bytes: &[u8], out: &mut [u8]) -> State
+fn list_rest<P: Print + Eprint>(rt: &P, state: State, bytes: &[u8], out: &mut [u8]) -> State
     requires { Within state bytes.now out.old }
     ensures { Within result bytes.now out.new }
 {
@@ -172,57 +192,69 @@ fn list_rest(state: State, bytes: &[u8], out: &mut [u8]) -> State
             len,
             used: 0,
             ended: state.ended,
-            going: flush(&out[..end]),
+            going: flush(rt, &out[..end]),
         },
         Stop::Bad => {
-            finish(Ending::Bad(progress.at), end, out);
+            finish(rt, Ending::Bad(progress.at), end, out);
             over(progress)
         }
     }
 }
 
 // The end of the input: less than a word is left.
-fn end(state: State, out: &mut [u8]) -> State
+fn end<P: Print + Eprint>(rt: &P, state: State, out: &mut [u8]) -> State
     requires { state.used ≤ length out.old }
     ensures { (result.from ≡ 0) × (result.len ≡ 0) × (result.used ≡ 0) }
 {
     let progress = state.progress;
     if state.from < state.len {
-        finish(Ending::Odd, state.used, out);
+        finish(rt, Ending::Odd, state.used, out);
         return over(progress);
     }
-    finish(Ending::End(progress.count), state.used, out);
+    finish(rt, Ending::End(progress.count), state.used, out);
     over(progress)
 }
 
 // One turn: words that are left are listed; otherwise the next buffer is read, until there is none. Buffers are of even length, so
 // a byte without its other half is left at the end of the input only.
-fn turn(state: State, bytes: &mut [u8], out: &mut [u8]) -> State
+fn turn<R: Read, P: Print + Eprint>(
+    input: &mut R,
+    rt: &P,
+    state: State,
+    bytes: &mut [u8],
+    out: &mut [u8],
+) -> State
     requires { Within state bytes.old out.old }
     ensures { Within result bytes.new out.new }
 {
     if 1 < state.len - state.from {
-        return list_rest(state, bytes, out);
+        return list_rest(rt, state, bytes, out);
     }
     if state.ended {
-        return end(state, out);
+        return end(rt, state, out);
     }
-    refill(state, bytes, out)
+    refill(input, rt, state, bytes, out)
 }
 
 // A proved loop has to end, and nothing says that an input does: the turns are counted down from a number that no run uses up.
-fn run(state: State, bytes: &mut [u8], out: &mut [u8])
+fn run<R: Read, P: Print + Eprint>(
+    input: &mut R,
+    rt: &P,
+    state: State,
+    bytes: &mut [u8],
+    out: &mut [u8],
+)
     requires { Within state bytes.old out.old }
 {
     let mut state = state;
     let mut turns = u64::MAX;
     while turns > 0 && state.going {
-        state = turn(state, bytes, out);
+        state = turn(input, rt, state, bytes, out);
         turns -= 1;
     }
 }
 
-fn main() {
+fn main(rt: HostRuntime) {
     let heading = listing::heading();
     let mut out = [0u8; ROOM];
     wire::place(&heading, &mut out, 0);
@@ -236,5 +268,5 @@ fn main() {
         ended: false,
         going: true,
     };
-    run(state, &mut bytes, &mut out);
+    run(&mut rt.stdin(), &rt, state, &mut bytes, &mut out);
 }

@@ -1,32 +1,22 @@
 -- `list::write_last` is safe: what `listing::last` gives lies in the part that it was lent. Assumes nothing.
-use lib.Seq.{length-take-le}
-use Rattle.list.proofs.Rooms.{in_part, in_changed}
 use mathlib.Core.Path.{sym}
 use native.Mathlib.Omega.{arith}
+use lib.Seq.{length-take-le}
 use Rattle.refusal.proofs.Placing.{wrote_within}
-use borrow.Author.Rules.{rules}
+use Rattle.list.proofs.Rooms.{in_part, in_changed}
 use Rattle.list.proofs.write_last.Goals as goal
 
 pub overflow_add-end : goal.overflow_add-end
-overflow_add-end c =
-    let n = c.before.n-1.given in
-    let l = c.before.before.before.before.before in
-    let s = l.before.before.before in
-    let f = wrote_within _ _ l.last.result n.0.0 l.last.ensures n.1 in
-    omega (arith, in_part s.args.used n.0.0 s.args.out.now s.requires f)
+overflow_add-end g c =
+    let f = wrote_within _ _ c.last.result c.in-Wrote.n c.last.ensures c.in-Wrote.is in
+    omega (arith, in_part c.args.used c.in-Wrote.n c.args.out.now c.requires f)
 
 pub slice_bounds-flush-end : goal.slice_bounds-flush-end
-slice_bounds-flush-end c =
-    let n = c.before.n-1.given in
-    let l = c.before.before.before.before.before in
-    let s = l.before.before.before in
-    let f = wrote_within _ _ l.last.result n.0.0 l.last.ensures n.1 in
-    in_changed s.args.used n.0.0 s.args.out.now s.requires f l.last.new.1.0 l.last.auto.1.0
+slice_bounds-flush-end g c =
+    let f = wrote_within _ _ c.last.result c.in-Wrote.n c.last.ensures c.in-Wrote.is in
+    in_changed c.args.used c.in-Wrote.n c.args.out.now c.requires f c.last.new.out c.last.auto.out
 
 pub slice_bounds-flush-end-2 : goal.slice_bounds-flush-end-2
-slice_bounds-flush-end-2 c =
-    let n = c.before.before.n-1.given in
-    let l = c.before.before.before.before.before.before in
-    let s = l.before.before.before in
-    let f = wrote_within _ _ l.last.result n.0.0 l.last.ensures n.1 in
-    sym (length-take-le _ _ (in_changed s.args.used n.0.0 s.args.out.now s.requires f l.last.new.1.0 l.last.auto.1.0))
+slice_bounds-flush-end-2 g c =
+    let f = wrote_within _ _ c.last.result c.in-Wrote.n c.last.ensures c.in-Wrote.is in
+    sym (length-take-le _ _ (in_changed c.args.used c.in-Wrote.n c.args.out.now c.requires f c.last.new.out c.last.auto.out))
