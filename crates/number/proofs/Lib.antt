@@ -5,4 +5,5 @@ pub mod Several
 pub mod Cuts
 pub mod Remainder
 pub mod Cases
+pub mod Products
 pub mod Pairs

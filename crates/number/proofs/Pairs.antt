@@ -1,31 +1,15 @@
--- The four characters of a number of four digits, made from its two pairs of digits at once: the numbers that the code makes on its way, and
--- what each of them is. Division by 100 and by 10 is a product and a shift, right for as many digits as there are. Assumes nothing.
+-- The four characters of a number of four digits, made from its two pairs of digits at once: what each of the numbers is that the code makes
+-- on its way (`Products`). Division by 100 and by 10 is a product and a shift, right for as many digits as there are. Assumes nothing.
 use mathlib.Core.Path.{◌≡◌, ap, ap₂, ◌∙◌}
 use mathlib.Core.List.{List, [], ◌∷◌}
-use Prim.Native.Nat.{ℕ, ◌+◌, ◌-◌, ◌*◌, ◌/◌, ◌%◌, ◌≤◌, ◌<◌, ◌^◌}
+use Prim.Native.Nat.{ℕ, ◌+◌, ◌*◌, ◌/◌, ◌%◌, ◌≤◌, ◌<◌, ◌^◌}
 use native.Mathlib.Omega.{arith}
 use lib.Bits.{bit_and, and_block, and_mask}
 use Rattle.number.specs.Data.{digit, five_digits}
 use Rattle.number.specs.Inner.{characters}
-
--- two numbers in the halves of one: a in the lower half, b in the upper
-abbrev pub halves : ℕ → ℕ → ℕ
-halves a b = b * 2 ^ 16 + a
+use Rattle.number.proofs.Products.{halves, lower, paired, pairs, scaled, low_bits, tens, joined, upper}
 
 -- ---- the two pairs of digits
-
-abbrev pub upper : ℕ → ℕ
-upper m = m * 5243 / 2 ^ 19
-
-abbrev pub lower : ℕ → ℕ
-lower m = m / 10 % 10 * 10 + m % 10
-
--- 6553599 is 100 * 2 ^ 16 - 1
-abbrev pub paired : ℕ → ℕ → ℕ
-paired m u = m * 65536 - u * 6553599
-
-abbrev pub pairs : ℕ → ℕ
-pairs m = paired m (upper m)
 
 pub upper_is : (m : ℕ) → m ≤ 9999 → upper m ≡ m / 10 / 10
 upper_is m h = omega arith
@@ -39,16 +23,6 @@ pairs_are m h =
     ap₂ paired e (upper_is m h) ∙ paired_is (m / 10 / 10) (lower m)
 
 -- ---- the tens of both pairs
-
-abbrev scaled : ℕ → ℕ
-scaled n = n * 103
-
--- 983055 has the lowest four bits of each half
-abbrev low_bits : ℕ → ℕ
-low_bits n = bit_and n 983055
-
-abbrev pub tens : ℕ → ℕ
-tens n = low_bits (scaled n / 2 ^ 10)
 
 tenth_is : (n : ℕ) → n ≤ 99 → scaled n / 2 ^ 10 ≡ n / 10
 tenth_is n h = omega arith
@@ -81,10 +55,6 @@ tens_are m h =
     ∙ ap (halves (m / 10 / 10 / 10)) (omega arith)
 
 -- ---- the four characters
-
--- 2559 is 10 * 2 ^ 8 - 1, and 808464432 is 48 in each byte
-abbrev pub joined : ℕ → ℕ → ℕ
-joined p t = p * 256 - t * 2559 + 808464432
 
 joined_is : (a b c d : ℕ)
     → joined (halves (a * 10 + b) (c * 10 + d)) (halves a c) ≡ digit a + digit b * 256 + digit c * 65536 + digit d * 16777216
