@@ -34,6 +34,10 @@ reached_of chars halt = record { pending = record { chars = chars; len = halt.le
 abbrev pub stands_at : Setup → Offer → List ℤ → Reached → Instrument
 stands_at setup offer values r = record { card = record { setup = setup; pending = r.pending; offer = offer }; values = values }
 
+-- a word that is left closes the message
+abbrev pub Closes : List ℕ → Reached → Type 0
+Closes ws r = r.at < length ws → hear r.pending (get_or ws r.at 0) ≡ record { pending = none; message = parse (open_of r.pending) }
+
 -- ---- words taken up to one that closes a message, from the place i on with q open before: what `hearing::to_close` answers and leaves
 
 abbrev pub Came : Pending → List ℕ → ℕ → List ℕ → Halt → Type 0

@@ -9,7 +9,6 @@ use Rattle.act.specs.Act.{answer_to, accepts}
 use mathlib.Core.Path.{ap, ◌∙◌}
 use Rattle.number.specs.Data.{with_decimals}
 use Rattle.number.proofs.Signed.{rd-is}
-use borrow.Author.Rules.{rules}
 use Rattle.act.proofs.accepts.Goals as goal
 
 pub returns : goal.returns

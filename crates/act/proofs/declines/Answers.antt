@@ -4,7 +4,6 @@ use Rattle.act.specs.Act.{says, shown_by}
 use Rattle.act.specs.Inner.{declines}
 use mathlib.Core.Path.{ap, ◌∙◌}
 use Rattle.number.proofs.Signed.{rd-is}
-use borrow.Author.Rules.{rules}
 use Rattle.act.proofs.declines.Goals as goal
 
 pub returns : goal.returns

@@ -4,7 +4,6 @@ use Rattle.number.proofs.Signed.{rd-is, rd_ok}
 use Rattle.number.specs.Number.{lowered}
 use Rattle.act.specs.Inner.{declines, moves, down}
 use native.Mathlib.Omega.{arith}
-use borrow.Author.Rules.{rules}
 use Rattle.act.proofs.down.Goals as goal
 
 pub returns-in_default : goal.returns-in_default

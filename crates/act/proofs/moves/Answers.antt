@@ -12,7 +12,6 @@ use Rattle.sheet.specs.declared.Entry.TheVariants.{Found}
 use Rattle.sheet.specs.Values.{is_read_write}
 use Rattle.act.specs.Act.{accepts}
 use Rattle.act.specs.Inner.{declines, moves}
-use borrow.Author.Rules.{rules}
 use Rattle.act.proofs.moves.Goals as goal
 
 -- the test of the definition is the code's

@@ -11,7 +11,6 @@ use Rattle.act.specs.declared.Said.TheVariants.{Reply}
 use Rattle.act.specs.declared.Store.TheVariants.{Keep}
 use Rattle.act.specs.Act.{answer_to, offers}
 use native.Mathlib.Omega.{arith}
-use borrow.Author.Rules.{rules}
 use Rattle.act.proofs.offers.Goals as goal
 
 pub returns : goal.returns

@@ -1,6 +1,5 @@
 -- `act::on_row` meets its contract: the test is the definition's, and the entry and the value are those of the identifier. Assumes nothing.
 use mathlib.Core.Path.{sym, ap₂, ◌∙◌}
-use borrow.Author.Rules.{rules}
 use lib.IntN.{ℤ}
 use Rattle.number.proofs.Signed.{rd_ok}
 use Rattle.sheet.specs.declared.Entry.{Entry}

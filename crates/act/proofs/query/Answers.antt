@@ -8,7 +8,6 @@ use Rattle.reply.specs.declared.Mark.TheVariants.{Accepted}
 use Rattle.reply.specs.declared.Content.TheVariants.{Number}
 use Rattle.act.specs.Act.{says}
 use Rattle.act.specs.Inner.{declines, query}
-use borrow.Author.Rules.{rules}
 use Rattle.act.proofs.query.Goals as goal
 
 pub returns-in_default : goal.returns-in_default

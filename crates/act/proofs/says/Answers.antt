@@ -3,7 +3,6 @@ use Rattle.act.specs.declared.Offer.TheVariants.{Nothing}
 use Rattle.act.specs.declared.Said.TheVariants.{Reply}
 use Rattle.act.specs.declared.Store.TheVariants.{Keep}
 use Rattle.act.specs.Act.{says}
-use borrow.Author.Rules.{rules}
 use Rattle.act.proofs.says.Goals as goal
 
 pub returns : goal.returns

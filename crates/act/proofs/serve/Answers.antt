@@ -3,7 +3,6 @@ use mathlib.Core.Path.{sym, ap, ◌∙◌}
 use lib.IntN.{ℤ}
 use Rattle.number.proofs.Signed.{rd-is}
 use Rattle.act.specs.Inner.{query, up, down, set_to, serve}
-use borrow.Author.Rules.{rules}
 use Rattle.act.proofs.serve.Goals as goal
 
 pub returns-in-Status : goal.returns-in-Status

@@ -19,7 +19,6 @@ use Rattle.act.specs.declared.Setup.{Setup}
 use Rattle.act.specs.Cause.{takes_zero}
 use Rattle.act.specs.Act.{offers}
 use Rattle.act.specs.Inner.{declines, set_to}
-use borrow.Author.Rules.{rules}
 use Rattle.act.proofs.set_to.Goals as goal
 
 module _ (c : Setup) (m : Message) (r : Row) (v : ℤ) (x : Numeral) where

@@ -5,7 +5,6 @@ use Rattle.number.specs.Data.{with_decimals}
 use Rattle.number.proofs.Signed.{rd-is}
 use Rattle.reply.specs.declared.Content.TheVariants.{Number}
 use Rattle.act.specs.Act.{shown_by}
-use borrow.Author.Rules.{rules}
 use Rattle.act.proofs.shown_by.Goals as goal
 
 pub returns-in_default : goal.returns-in_default

@@ -7,7 +7,6 @@ use mir.Val.{SFits}
 use Rattle.act.specs.Act.{accepts}
 use Rattle.act.specs.Inner.{store}
 use native.Mathlib.Omega.{arith}
-use borrow.Author.Rules.{rules}
 use Rattle.act.proofs.store_offer.Goals as goal
 
 pub returns-in_default : goal.returns-in_default

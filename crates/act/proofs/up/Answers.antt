@@ -4,7 +4,6 @@ use Rattle.number.proofs.Signed.{rd-is, rd_ok}
 use Rattle.number.specs.Number.{raised}
 use Rattle.act.specs.Inner.{declines, moves, up}
 use native.Mathlib.Omega.{arith}
-use borrow.Author.Rules.{rules}
 use Rattle.act.proofs.up.Goals as goal
 
 pub returns-in_default : goal.returns-in_default

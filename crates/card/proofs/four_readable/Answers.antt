@@ -2,7 +2,6 @@
 use mathlib.Core.Path.{◌≡◌, refl, sym}
 use mathlib.Core.Bool.{Bool, true, false, ◌&&◌}
 use Rattle.refusal.specs.Lists.{every}
-use borrow.Author.Rules.{rules}
 use Rattle.card.proofs.four_readable.Goals as goal
 
 and-true : (b : Bool) → b && true ≡ b

@@ -1,6 +1,5 @@
 -- `card::sound_setup` meets its contract: the tests are the definition's. Assumes nothing.
 use Rattle.card.specs.Refusals.{is_revision, sound_setup}
-use borrow.Author.Rules.{rules}
 use Rattle.card.proofs.sound_setup.Goals as goal
 
 pub returns : goal.returns

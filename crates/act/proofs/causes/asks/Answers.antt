@@ -2,7 +2,6 @@
 use mathlib.Core.Path.{ap}
 use mathlib.Core.Bool.{Bool, true}
 use Rattle.act.specs.Cause.{stands}
-use borrow.Author.Rules.{rules}
 use Rattle.act.proofs.causes.asks.Goals as goal
 
 pub returns : goal.returns

@@ -7,7 +7,6 @@ use Rattle.message.specs.declared.Message.{Message}
 use Rattle.act.specs.declared.Setup.{Setup}
 use Rattle.act.specs.declared.causes.Standing.{Standing}
 use Rattle.act.specs.Cause.{Why, why, is_for, takes_zero, causes, because}
-use borrow.Author.Rules.{rules}
 use Rattle.act.proofs.causes.first_cause.Goals as goal
 
 -- the first test that is not passed gives its cause

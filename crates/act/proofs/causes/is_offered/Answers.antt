@@ -1,7 +1,6 @@
 -- `act::causes::is_offered` meets its contract: the arm and the test are the definition's. Assumes nothing.
 use mathlib.Core.Path.{sym}
 use Rattle.act.specs.Cause.{is_offered}
-use borrow.Author.Rules.{rules}
 use Rattle.act.proofs.causes.is_offered.Goals as goal
 
 pub returns-in_default : goal.returns-in_default

@@ -5,7 +5,6 @@ use lib.IntN.{ℤ}
 use Rattle.number.specs.Number.{in_range}
 use Rattle.number.proofs.Signed.{rd-is}
 use Rattle.act.specs.Cause.{stands, is_found}
-use borrow.Author.Rules.{rules}
 use Rattle.act.proofs.causes.moves_to.Goals as goal
 
 pub returns : goal.returns

@@ -1,7 +1,6 @@
 -- `act::causes::on_bracket` meets its contract: the arm says the type. Assumes nothing.
 use mathlib.Core.Path.{sym, ◌∙◌}
 use Rattle.act.specs.Cause.{on_bracket}
-use borrow.Author.Rules.{rules}
 use Rattle.act.proofs.causes.on_bracket.Goals as goal
 
 pub returns-in-Status : goal.returns-in-Status

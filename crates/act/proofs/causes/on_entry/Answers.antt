@@ -9,7 +9,6 @@ use Rattle.sheet.specs.declared.Row.{Row}
 use Rattle.sheet.specs.Values.{is_readable, is_writable}
 use Rattle.act.specs.Cause.{stands, is_found, moves_to, standing}
 use native.Mathlib.Omega.{arith}
-use borrow.Author.Rules.{rules}
 use Rattle.act.proofs.causes.on_entry.Goals as goal
 
 pub returns-in-Status : goal.returns-in-Status

@@ -6,7 +6,6 @@ use Rattle.number.proofs.Signed.{rd_ok}
 use Rattle.sheet.specs.declared.Entry.{Entry}
 use Rattle.act.specs.declared.causes.Standing.{Standing}
 use Rattle.act.specs.Cause.{on_entry, causes, because}
-use borrow.Author.Rules.{rules}
 use Rattle.act.proofs.causes.row_cause.Goals as goal
 
 pub returns : goal.returns

@@ -3,7 +3,6 @@ use mathlib.Core.Path.{ap, ◌∙◌}
 use Rattle.refusal.specs.Check.{first}
 use Rattle.act.specs.declared.causes.Standing.{Standing}
 use Rattle.act.specs.Cause.{causes, because}
-use borrow.Author.Rules.{rules}
 use Rattle.act.proofs.causes.scan_cause.Goals as goal
 
 pub returns : goal.returns

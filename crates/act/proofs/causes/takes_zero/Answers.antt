@@ -2,7 +2,6 @@
 use mathlib.Core.Path.{sym, ap, ◌∙◌}
 use Rattle.message.specs.Message.{asks_minus_zero}
 use Rattle.act.specs.Cause.{takes_zero}
-use borrow.Author.Rules.{rules}
 use Rattle.act.proofs.causes.takes_zero.Goals as goal
 
 pub returns-in-Status : goal.returns-in-Status

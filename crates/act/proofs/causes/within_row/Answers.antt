@@ -4,7 +4,6 @@ use native.Mathlib.Omega.{arith}
 use mir.Syntax.{w32}
 use mir.Val.{SFits}
 use Rattle.number.proofs.Signed.{rd-is}
-use borrow.Author.Rules.{rules}
 use Rattle.act.proofs.causes.within_row.Goals as goal
 
 pub returns : goal.returns

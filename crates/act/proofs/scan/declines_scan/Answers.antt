@@ -3,7 +3,6 @@ use mathlib.Core.Path.{ap, ◌∙◌}
 use Rattle.reply.specs.declared.Mark.TheVariants.{Declined}
 use Rattle.act.specs.Act.{says}
 use Rattle.act.specs.Inner.{declines_scan}
-use borrow.Author.Rules.{rules}
 use Rattle.act.proofs.scan.declines_scan.Goals as goal
 
 pub returns : goal.returns

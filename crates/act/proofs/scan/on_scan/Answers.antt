@@ -1,6 +1,5 @@
 -- `act::scan::on_scan` meets its contract: the test is the definition's. Assumes nothing.
 use mathlib.Core.Path.{sym, ◌∙◌}
-use borrow.Author.Rules.{rules}
 use Rattle.act.specs.Inner.{addressed}
 use Rattle.act.proofs.Judged.{bracket_is}
 use Rattle.act.proofs.scan.on_scan.Goals as goal

@@ -3,7 +3,6 @@ use mathlib.Core.Path.{sym, ◌∙◌}
 use borrow.Author.Tests.{eq-eqb, ne_eqb}
 use Rattle.reply.specs.declared.Content.TheVariants.{Four, Five}
 use Rattle.act.specs.Act.{scan_of}
-use borrow.Author.Rules.{rules}
 use Rattle.act.proofs.scan.scan_of.Goals as goal
 
 pub returns-then-setup-eq4 : goal.returns-then-setup-eq4

@@ -4,7 +4,6 @@ use borrow.Author.Tests.{eq-eqb, ne_eqb}
 use Rattle.reply.specs.declared.Mark.TheVariants.{Accepted}
 use Rattle.act.specs.Act.{says}
 use Rattle.act.specs.Inner.{serve_scan}
-use borrow.Author.Rules.{rules}
 use Rattle.act.proofs.scan.serve_scan.Goals as goal
 
 pub returns-in-Status : goal.returns-in-Status

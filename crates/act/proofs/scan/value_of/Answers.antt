@@ -4,7 +4,6 @@ use Rattle.number.proofs.Signed.{rd_ok}
 use Rattle.sheet.specs.declared.Entry.{Entry}
 use Rattle.act.specs.Cause.{row_or_zeros}
 use Rattle.act.specs.Act.{value_of}
-use borrow.Author.Rules.{rules}
 use Rattle.act.proofs.scan.value_of.Goals as goal
 
 pub returns : goal.returns

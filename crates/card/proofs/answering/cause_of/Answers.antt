@@ -1,7 +1,6 @@
 -- `card::cause_of` meets its contract: under sound sheets the index gives the entries. Assumes nothing.
 use mathlib.Core.Path.{◌∙◌}
 use Rattle.card.proofs.Causes.{by_index}
-use borrow.Author.Rules.{rules}
 use Rattle.card.proofs.answering.cause_of.Goals as goal
 
 pub returns : goal.returns

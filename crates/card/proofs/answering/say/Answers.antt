@@ -8,27 +8,19 @@ use Rattle.refusal.proofs.Calls.{placed_call, unplaced_call, fits-at, fits_not}
 use Rattle.act.specs.declared.Said.{Said}
 use Rattle.card.specs.Turn.{reply_of}
 use mathlib.Core.List.{[]}
-use borrow.Author.Rules.{rules}
 use Rattle.card.proofs.answering.say.Goals as goal
 
 pub returns-then-out-at : goal.returns-then-out-at
 returns-then-out-at c =
-    let a = c.before.before.before.before.args in
+    let a = c.args in
     let o = a.out.now in
     sym (unplaced_call [] a.at o (fits_not [] a.at o (omega (arith, c.if-out-at.true))))
-    ∙ ap (λ (x : Said). place_call (reply_of x) a.at o) (sym c.before.enum_told-1.given.1)
+    ∙ ap (λ (x : Said). place_call (reply_of x) a.at o) (sym c.in_default.is)
 
 pub returns-in_default : goal.returns-in_default
 returns-in_default c =
-    let a = c.before.before.before.before.args in
+    let a = c.args in
     let o = a.out.now in
     (λ j. record { outcome = gave 0; buffer = sym (placed_nothing a.at o) j })
     ∙ sym (placed_call [] a.at o (fits-at [] a.at o (omega (arith, c.if-out-at.false))))
-    ∙ ap (λ (x : Said). place_call (reply_of x) a.at o) (sym c.before.enum_told-1.given.1)
-
-pub returns : goal.returns
-returns c =
-    let p = c.before.before in
-    let k = p.before.before.before in
-    let a = k.before.before.before.args in
-    p.place.ensures ∙ ap (λ (x : Said). place_call (reply_of x) a.at a.out.now) (sym k.said-1.given.1)
+    ∙ ap (λ (x : Said). place_call (reply_of x) a.at o) (sym c.in_default.is)
