@@ -36,7 +36,7 @@ pub loop-k-preserved : goal.loop-k-preserved
 loop-k-preserved c =
     let a = c.args in
     let k = c.loop-k.k in
-    let e : set c.loop-k.out (0 + k) (get_or a.numbers.now k (pos 0)) ≡ set c.loop-k.out k _ = ap₂ (set c.loop-k.out) (zero-add k) (sym (rd_ok (get_or a.numbers.now k (pos 0)) c.out-1.given)) in
+    let e : set c.loop-k.out (0 + k) (get_or a.numbers.now k (pos 0)) ≡ set c.loop-k.out k _ = ap₂ (set c.loop-k.out) (zero-add k) (sym (rd_ok (get_or a.numbers.now k (pos 0)) (omega arith))) in
     subst (λ (x : List ℤ). Copied a.numbers.now a.out.now 0 x (k + 1)) e
     (copy_more (pos 0) a.numbers.now a.out.now 0 c.loop-k.out k c.loop-k.invariant (rw (zero-add (length a.numbers.now)) c.requires) c.loop-k-test.true)
 
