@@ -1,5 +1,6 @@
 -- `act::causes::first_cause` meets its contract: each test is a line of the list, and behind those that are passed the rest of the list
--- decides. Assumes nothing.
+-- decides. What the tests say is found by `cc`, and not by their names, so that tests in another order are refused for what they say.
+-- Assumes nothing.
 use mathlib.Core.Path.{◌≡◌, sym, ◌∙◌}
 use mathlib.Core.Bool.{true, false}
 use Rattle.refusal.specs.Check.{first}
@@ -51,28 +52,28 @@ module _ (c : Setup) (m : Message) (s : Standing) where
   passed h1 h2 h3 h4 h5 h6 h7 h8 = sym (rw (h1, h2, h3, h4, h5, h6, h7, h8))
 
 pub returns-then-not-ours : goal.returns-then-not-ours
-returns-then-not-ours c = not_ours c.args.setup c.args.message c.args.standing (sym c.is_for-ours.ensures ∙ c.if-not-ours.true)
+returns-then-not-ours c = not_ours c.args.setup c.args.message c.args.standing (cc)
 
 pub returns-then-not-offered : goal.returns-then-not-offered
-returns-then-not-offered c = not_offered c.args.setup c.args.message c.args.standing (sym c.is_for-ours.ensures ∙ c.if-not-ours.false) c.if-not-offered.true
+returns-then-not-offered c = not_offered c.args.setup c.args.message c.args.standing (cc) (cc)
 
 pub returns-then-not-exists : goal.returns-then-not-exists
-returns-then-not-exists c = not_exists c.args.setup c.args.message c.args.standing (sym c.is_for-ours.ensures ∙ c.if-not-ours.false) c.if-not-offered.false c.if-not-exists.true
+returns-then-not-exists c = not_exists c.args.setup c.args.message c.args.standing (cc) (cc) (cc)
 
 pub returns-then-not-allowed : goal.returns-then-not-allowed
-returns-then-not-allowed c = not_allowed c.args.setup c.args.message c.args.standing (sym c.is_for-ours.ensures ∙ c.if-not-ours.false) c.if-not-offered.false c.if-not-exists.false c.if-not-allowed.true
+returns-then-not-allowed c = not_allowed c.args.setup c.args.message c.args.standing (cc) (cc) (cc) (cc)
 
 pub returns-then-not-matching : goal.returns-then-not-matching
-returns-then-not-matching c = not_matching c.args.setup c.args.message c.args.standing (sym c.is_for-ours.ensures ∙ c.if-not-ours.false) c.if-not-offered.false c.if-not-exists.false c.if-not-allowed.false c.if-not-matching.true
+returns-then-not-matching c = not_matching c.args.setup c.args.message c.args.standing (cc) (cc) (cc) (cc) (cc)
 
 pub returns-then-not-taken : goal.returns-then-not-taken
-returns-then-not-taken c = not_taken c.args.setup c.args.message c.args.standing (sym c.is_for-ours.ensures ∙ c.if-not-ours.false) c.if-not-offered.false c.if-not-exists.false c.if-not-allowed.false c.if-not-matching.false (sym c.takes_zero-taken.ensures ∙ c.if-not-taken.true)
+returns-then-not-taken c = not_taken c.args.setup c.args.message c.args.standing (cc) (cc) (cc) (cc) (cc) (cc)
 
 pub returns-then-not-within : goal.returns-then-not-within
-returns-then-not-within c = not_within c.args.setup c.args.message c.args.standing (sym c.is_for-ours.ensures ∙ c.if-not-ours.false) c.if-not-offered.false c.if-not-exists.false c.if-not-allowed.false c.if-not-matching.false (sym c.takes_zero-taken.ensures ∙ c.if-not-taken.false) c.if-not-within.true
+returns-then-not-within c = not_within c.args.setup c.args.message c.args.standing (cc) (cc) (cc) (cc) (cc) (cc) (cc)
 
 pub returns-then-not-reachable : goal.returns-then-not-reachable
-returns-then-not-reachable c = not_reachable c.args.setup c.args.message c.args.standing (sym c.is_for-ours.ensures ∙ c.if-not-ours.false) c.if-not-offered.false c.if-not-exists.false c.if-not-allowed.false c.if-not-matching.false (sym c.takes_zero-taken.ensures ∙ c.if-not-taken.false) c.if-not-within.false c.if-not-reachable.true
+returns-then-not-reachable c = not_reachable c.args.setup c.args.message c.args.standing (cc) (cc) (cc) (cc) (cc) (cc) (cc) (cc)
 
 pub returns : goal.returns
-returns c = passed c.args.setup c.args.message c.args.standing (sym c.is_for-ours.ensures ∙ c.if-not-ours.false) c.if-not-offered.false c.if-not-exists.false c.if-not-allowed.false c.if-not-matching.false (sym c.takes_zero-taken.ensures ∙ c.if-not-taken.false) c.if-not-within.false c.if-not-reachable.false
+returns c = passed c.args.setup c.args.message c.args.standing (cc) (cc) (cc) (cc) (cc) (cc) (cc) (cc)
