@@ -24,7 +24,6 @@ use Rattle.act.specs.declared.Setup.{Setup}
 use Rattle.act.specs.declared.Offer.{Offer}
 use Rattle.act.specs.declared.Offer.TheVariants.{Nothing, Held}
 use Rattle.act.specs.declared.Said.TheVariants.{Silence, Reply}
-use Rattle.act.specs.declared.Store.{Store}
 use Rattle.act.specs.declared.Store.TheVariants.{Keep, Put}
 use Rattle.act.specs.declared.Effect.{Effect}
 use Rattle.act.specs.declared.causes.Cause.TheVariants.{NotForThisCard, NoOffer}

@@ -1,7 +1,7 @@
 -- `act::causes::first_cause` meets its contract: each test is a line of the list, and behind those that are passed the rest of the list
 -- decides. What the tests say is found by `cc`, and not by their names, so that tests in another order are refused for what they say.
 -- Assumes nothing.
-use mathlib.Core.Path.{◌≡◌, sym, ◌∙◌}
+use mathlib.Core.Path.{◌≡◌, sym}
 use mathlib.Core.Bool.{true, false}
 use Rattle.refusal.specs.Check.{first}
 use Rattle.message.specs.declared.Message.{Message}
