@@ -1,10 +1,7 @@
 -- `bus::all_fit` meets its contract. The loop's invariant: the first i rows passed. Assumes nothing.
 use Prim.Native.Nat.{◌-◌}
-use native.Mathlib.Omega.{arith}
-use borrow.Author.Rules.{rules}
-use borrow.Author.Tests.{not-true, not-false}
 use Rattle.bus.specs.Inner.{card_row_fits}
-use Rattle.bus.proofs.Parts.{TestedParts, parts_start, parts_pass, parts_fail, parts_end}
+use Rattle.bus.proofs.Parts.{TestedParts}
 use Rattle.bus.proofs.all_fit.Given as goal
 
 abbrev pub invariant-loop-i : goal.invariant-loop-i

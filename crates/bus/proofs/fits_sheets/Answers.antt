@@ -1,7 +1,6 @@
 -- `bus::fits_sheets` meets its contract: both tests. Assumes nothing.
 use mathlib.Core.Path.{ap, ap₂, ◌∙◌}
 use mathlib.Core.Bool.{◌&&◌}
-use borrow.Author.Rules.{rules}
 use Rattle.bus.specs.Inner.{card_row_fits}
 use Rattle.bus.specs.Refusals.{fits_sheets}
 use Rattle.card.specs.declared.Card.{Card}

@@ -1,7 +1,6 @@
 -- `bus::is_sound` meets its contract: both tests. Assumes nothing.
 use mathlib.Core.Path.{ap, ap₂, ◌∙◌}
 use mathlib.Core.Bool.{◌&&◌}
-use borrow.Author.Rules.{rules}
 use Rattle.bus.specs.Inner.{sound_card_row}
 use Rattle.card.specs.Refusals.{sound_card}
 use Rattle.bus.proofs.is_sound.Goals as goal

@@ -6,13 +6,12 @@ use Prim.Native.Nat.{ℕ, ◌*◌}
 use lib.IntN.{ℤ}
 use lib.ListN.{length}
 use native.Mathlib.Omega.{arith}
-use borrow.Author.Rules.{rules}
-use borrow.Author.Tests.{eq-eqb, ne_eqb, not-true, not-false}
+use borrow.Author.Tests.{eq-eqb, ne_eqb}
 use Rattle.refusal.specs.Lists.{every}
 use Rattle.sheet.specs.Values.{sound_values}
 use Rattle.bus.specs.Bus.{parts}
 use Rattle.bus.specs.Refusals.{sound_parts}
-use Rattle.bus.proofs.Parts.{TestedParts, parts_start, parts_pass, parts_fail, parts_end}
+use Rattle.bus.proofs.Parts.{parts_start, parts_pass, parts_fail, parts_end}
 use Rattle.bus.proofs.sound_parts.Goals as goal
 
 pub returns-then-values-count : goal.returns-then-values-count

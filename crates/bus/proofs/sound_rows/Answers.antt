@@ -5,14 +5,13 @@ use mathlib.Core.List.{List}
 use Prim.Native.Nat.{◌%◌}
 use lib.IntN.{ℤ}
 use native.Mathlib.Omega.{arith}
-use borrow.Author.Rules.{rules}
-use borrow.Author.Tests.{eq-eqb, ne_eqb, not-true, not-false}
+use borrow.Author.Tests.{eq-eqb, ne_eqb}
 use lib.Dec.{eqb}
 use lib.ListN.{length}
 use Rattle.refusal.specs.Lists.{every}
 use Rattle.bus.specs.Rows.{rows_in}
 use Rattle.bus.specs.Inner.{sound_card_row}
-use Rattle.bus.proofs.Parts.{TestedParts, parts_start, parts_pass, parts_fail, parts_end}
+use Rattle.bus.proofs.Parts.{parts_start, parts_pass, parts_fail, parts_end}
 use Rattle.bus.proofs.sound_rows.Goals as goal
 
 pub returns-then-numbers-ne0 : goal.returns-then-numbers-ne0

@@ -1,16 +1,7 @@
 -- `bus::sound_rows` meets its contract. The loop's invariant: the first i rows passed. Assumes nothing.
-use mathlib.Core.Path.{◌≡◌, refl, sym, ap, ◌∙◌}
-use mathlib.Core.Bool.{Bool, ◌&&◌}
-use Prim.Native.Nat.{◌-◌, ◌%◌}
-use native.Mathlib.Omega.{arith}
-use borrow.Author.Rules.{rules}
-use borrow.Author.Tests.{eq-eqb, ne_eqb, not-true, not-false}
-use lib.Dec.{eqb}
-use lib.ListN.{length}
-use Rattle.refusal.specs.Lists.{every}
-use Rattle.bus.specs.Rows.{rows_in}
+use Prim.Native.Nat.{◌-◌}
 use Rattle.bus.specs.Inner.{sound_card_row}
-use Rattle.bus.proofs.Parts.{TestedParts, parts_start, parts_pass, parts_fail, parts_end}
+use Rattle.bus.proofs.Parts.{TestedParts}
 use Rattle.bus.proofs.sound_rows.Given as goal
 
 abbrev pub invariant-loop-i : goal.invariant-loop-i

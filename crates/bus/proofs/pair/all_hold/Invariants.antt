@@ -1,16 +1,12 @@
 -- `bus::all_hold` meets its contract. The loop's invariant: the first i rows passed. Assumes nothing.
-use mathlib.Core.Path.{ap, ◌∙◌}
 use mathlib.Core.Bool.{Bool}
 use mathlib.Core.List.{List}
 use Prim.Native.Nat.{◌-◌}
-use native.Mathlib.Omega.{arith}
-use borrow.Author.Rules.{rules}
-use borrow.Author.Tests.{not-true, not-false}
 use lib.IntN.{ℤ}
 use Rattle.hearing.specs.declared.Pending.{Pending}
 use Rattle.bus.specs.Refusals.{same_open}
 use Rattle.bus.specs.Inner.{pending_in}
-use Rattle.bus.proofs.Parts.{TestedParts, parts_start, parts_pass, parts_fail, parts_end}
+use Rattle.bus.proofs.Parts.{TestedParts}
 use Rattle.bus.proofs.pair.all_hold.Given as goal
 
 abbrev pub holds : Pending → List ℤ → Bool

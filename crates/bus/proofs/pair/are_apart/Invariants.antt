@@ -1,12 +1,8 @@
 -- `bus::are_apart` meets its contract. The loop's invariant: the rest decides. Assumes nothing.
-use mathlib.Core.Path.{◌≡◌, refl, sym, ◌∙◌}
-use Prim.Native.Nat.{◌-◌, ◌≤◌}
-use native.Mathlib.Omega.{arith}
-use borrow.Author.Rules.{rules}
-use borrow.Author.Tests.{not-true, not-false}
-use lib.ListN.{length, take, drop}
+use mathlib.Core.Path.{◌≡◌}
+use Prim.Native.Nat.{◌-◌}
+use lib.ListN.{take, drop}
 use Rattle.bus.specs.Refusals.{apart}
-use Rattle.bus.proofs.Apart.{apart_more, apart_fails, apart_ends}
 use Rattle.bus.proofs.pair.are_apart.Given as goal
 
 abbrev pub invariant-loop-i : goal.invariant-loop-i

@@ -1,14 +1,10 @@
 -- `bus::differs` meets its contract. The loop's invariant: the rest decides. Assumes nothing.
-use mathlib.Core.Path.{◌≡◌, refl}
-use mathlib.Core.Bool.{Bool, not}
-use Prim.Native.Nat.{◌-◌, ◌≤◌}
+use mathlib.Core.Path.{refl}
+use Prim.Native.Nat.{◌≤◌}
 use native.Mathlib.Omega.{arith}
-use lib.ListN.{length, take, drop}
-use Rattle.refusal.specs.Lists.{every}
-use Rattle.act.specs.declared.Setup.{Setup}
+use lib.ListN.{length}
 use Rattle.bus.specs.Refusals.{alike}
 use Rattle.bus.proofs.Apart.{differs_more, differs_fails, differs_ends}
-use Rattle.bus.proofs.pair.differs.Invariants.{tests}
 use Rattle.bus.proofs.pair.differs.Goals as goal
 
 pub loop-j-init : goal.loop-j-init

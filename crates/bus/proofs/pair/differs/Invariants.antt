@@ -1,13 +1,11 @@
 -- `bus::differs` meets its contract. The loop's invariant: the rest decides. Assumes nothing.
-use mathlib.Core.Path.{◌≡◌, refl}
+use mathlib.Core.Path.{◌≡◌}
 use mathlib.Core.Bool.{Bool, not}
-use Prim.Native.Nat.{◌-◌, ◌≤◌}
-use native.Mathlib.Omega.{arith}
-use lib.ListN.{length, take, drop}
+use Prim.Native.Nat.{◌-◌}
+use lib.ListN.{take, drop}
 use Rattle.refusal.specs.Lists.{every}
 use Rattle.act.specs.declared.Setup.{Setup}
 use Rattle.bus.specs.Refusals.{alike}
-use Rattle.bus.proofs.Apart.{differs_more, differs_fails, differs_ends}
 use Rattle.bus.proofs.pair.differs.Given as goal
 
 abbrev pub tests : Setup → Setup → Bool

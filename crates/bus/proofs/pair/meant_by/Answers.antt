@@ -1,7 +1,6 @@
 -- `bus::meant_by` meets its contract: what stands in the slot of its letter and address. Assumes nothing.
 use mathlib.Core.Path.{sym, ap, ◌∙◌}
 use Prim.Native.Nat.{ℕ}
-use borrow.Author.Rules.{rules}
 use lib.ListN.{get_or, get_or-eq_default}
 use Rattle.bus.specs.Inner.{meant_by}
 use Rattle.bus.proofs.pair.meant_by.Goals as goal

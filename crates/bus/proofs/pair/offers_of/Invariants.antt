@@ -1,11 +1,7 @@
 -- `bus::offers_of` meets its contract. The loop's invariant: the first i are made of the first i rows. Assumes nothing.
-use mathlib.Core.Path.{refl, ap}
 use Prim.Native.Nat.{◌-◌}
-use native.Mathlib.Omega.{arith}
-use borrow.Author.Rules.{rules}
-use Rattle.card.specs.declared.Card.{Card}
 use Rattle.bus.specs.Inner.{offer_in}
-use Rattle.bus.proofs.Parts.{Made, made_starts, made_more, made_ends}
+use Rattle.bus.proofs.Parts.{Made}
 use Rattle.bus.proofs.pair.offers_of.Given as goal
 
 abbrev pub invariant-loop-i : goal.invariant-loop-i

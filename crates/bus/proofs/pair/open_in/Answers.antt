@@ -1,6 +1,5 @@
 -- `bus::open_in` meets its contract: it is the card's. Assumes nothing.
 use mathlib.Core.Path.{ap}
-use borrow.Author.Rules.{rules}
 use Rattle.card.specs.declared.Card.{Card}
 use Rattle.bus.proofs.pair.open_in.Goals as goal
 

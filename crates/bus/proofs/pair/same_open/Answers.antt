@@ -1,7 +1,6 @@
 -- `bus::same_open` meets its contract: the counts and the characters are compared. Assumes nothing.
 use mathlib.Core.Path.{ap}
 use mathlib.Core.Bool.{Bool, ◌&&◌}
-use borrow.Author.Rules.{rules}
 use lib.Dec.{eqb}
 use Rattle.bus.specs.Refusals.{same_open}
 use Rattle.bus.proofs.pair.same_open.Goals as goal

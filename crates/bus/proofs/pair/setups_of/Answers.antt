@@ -1,11 +1,9 @@
 -- `bus::setups_of` meets its contract. The loop's invariant: the first i are made of the first i rows. Assumes nothing.
 use mathlib.Core.Path.{refl, ap}
-use Prim.Native.Nat.{◌-◌}
 use native.Mathlib.Omega.{arith}
-use borrow.Author.Rules.{rules}
 use Rattle.card.specs.declared.Card.{Card}
 use Rattle.bus.specs.Inner.{setup_in}
-use Rattle.bus.proofs.Parts.{Made, made_starts, made_more, made_ends}
+use Rattle.bus.proofs.Parts.{made_starts, made_more, made_ends}
 use Rattle.bus.proofs.pair.setups_of.Goals as goal
 
 pub loop-i-init : goal.loop-i-init

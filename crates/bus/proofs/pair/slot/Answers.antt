@@ -1,7 +1,6 @@
 -- `bus::slot` meets its contract: each letter has its own half of the table. Assumes nothing.
 use mathlib.Core.Path.{refl}
 use native.Mathlib.Omega.{arith}
-use borrow.Author.Rules.{rules}
 use borrow.Author.Tests.{eq-eqb, ne_eqb}
 use Rattle.bus.specs.Inner.{slot_of}
 use Rattle.bus.proofs.pair.slot.Goals as goal

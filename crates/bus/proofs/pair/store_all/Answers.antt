@@ -1,10 +1,9 @@
 -- `bus::store_all` meets its contract. The loop's invariant: the first i cards are stored back. Assumes nothing.
 use mathlib.Core.Path.{◌≡◌, refl, sym, ap, ◌∙◌}
 use mathlib.Core.List.{List, []}
-use Prim.Native.Nat.{ℕ, ◌+◌, ◌-◌, ◌*◌, ◌≤◌, ◌<◌}
+use Prim.Native.Nat.{ℕ, ◌+◌, ◌*◌, ◌≤◌, ◌<◌}
 use native.Mathlib.Omega.{arith}
 use native.Mathlib.Numerals.{add-one}
-use borrow.Author.Rules.{rules}
 use lib.IntN.{ℤ}
 use lib.ListN.{length, get_or, take}
 use lib.Seq.{length-take-le, get_or-take, take_all}
@@ -15,10 +14,9 @@ use Rattle.act.specs.declared.Offer.TheVariants.{Nothing}
 use Rattle.row.specs.Row.{stored_in}
 use Rattle.card.specs.declared.Card.{Card}
 use Rattle.bus.specs.Rows.{stored_back}
-use Rattle.bus.specs.Inner.{cards_with}
 use Rattle.bus.proofs.Parts.{lent_part, put_part}
 use Rattle.bus.proofs.Standing.{cards_count, cards_at, back_length, back_more}
-use Rattle.bus.proofs.pair.store_all.Invariants.{cards_to, Back}
+use Rattle.bus.proofs.pair.store_all.Invariants.{cards_to}
 use Rattle.bus.proofs.pair.store_all.Goals as goal
 
 -- what stands behind the last
