@@ -3,7 +3,6 @@ use native.Mathlib.Omega.{arith}
 use Rattle.number.proofs.Signed.{rd-is}
 use Rattle.abi.specs.Rows.{pairs}
 use Rattle.abi.proofs.Laws.{told}
-use borrow.Author.Rules.{rules}
 use Rattle.abi.proofs.answer_numbers.Goals as goal
 
 pub returns : goal.returns

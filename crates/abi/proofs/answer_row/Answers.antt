@@ -1,7 +1,6 @@
 -- `abi::answer_row` meets its contract: the row by how many numbers there are. Assumes nothing.
 use mathlib.Core.Path.{sym, ◌∙◌}
 use Rattle.abi.specs.Rows.{pairs, answer_row}
-use borrow.Author.Rules.{rules}
 use Rattle.abi.proofs.answer_row.Goals as goal
 
 pub returns-in-Empty : goal.returns-in-Empty

@@ -1,14 +1,8 @@
 -- `abi::copy` meets its contract. The loop's invariant: the first k numbers are in their places, and nothing else has changed.
 -- Assumes nothing.
-use mathlib.Core.Path.{◌≡◌, sym, ap₂, ◌∙◌, subst}
-use mathlib.Core.List.{List}
-use native.Mathlib.Nat.{zero-add}
-use native.Mathlib.Omega.{arith}
-use Prim.Native.Nat.{◌+◌, ◌-◌}
-use lib.IntN.{ℤ, pos}
-use lib.ListN.{length, get_or, set}
-use Rattle.number.proofs.Signed.{rd_ok}
-use Rattle.refusal.proofs.Buffers.{Copied, copy_starts, copy_more, copy-ends, placed-front}
+use Prim.Native.Nat.{◌-◌}
+use lib.ListN.{length}
+use Rattle.refusal.proofs.Buffers.{Copied}
 use Rattle.abi.proofs.copy.Given as goal
 
 abbrev pub invariant-loop-k : goal.invariant-loop-k

@@ -4,7 +4,6 @@ use borrow.Author.Tests.{le-leb, lt-leb}
 use mir.Syntax.{w64}
 use mir.ValLaws.{to_z_pos}
 use Rattle.abi.specs.Result.{count_result}
-use borrow.Author.Rules.{rules}
 use Rattle.abi.proofs.count_result.Goals as goal
 
 pub returns-then-n-le9223372036854775807 : goal.returns-then-n-le9223372036854775807

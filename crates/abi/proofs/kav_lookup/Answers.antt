@@ -7,7 +7,6 @@ use Rattle.sheet.specs.Lookup.{shown}
 use Rattle.refusal.specs.Buffer.{laid}
 use Rattle.abi.specs.Result.{filled}
 use Rattle.abi.proofs.Laws.{wide_ok, lookup_short, lookup_none, lookup_row}
-use borrow.Author.Rules.{rules}
 use Rattle.abi.proofs.kav_lookup.Goals as goal
 
 pub returns-then-row-lt6 : goal.returns-then-row-lt6

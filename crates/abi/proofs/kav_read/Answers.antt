@@ -9,7 +9,6 @@ use Rattle.refusal.specs.Buffer.{laid}
 use Rattle.abi.specs.Result.{filled}
 use Rattle.abi.specs.Rows.{read_into}
 use Rattle.abi.proofs.Laws.{wide_ok, read_short, read_long}
-use borrow.Author.Rules.{rules}
 use Rattle.abi.proofs.kav_read.Goals as goal
 
 pub returns-then-answer-lt-ANSWER : goal.returns-then-answer-lt-ANSWER

@@ -2,7 +2,6 @@
 -- Assumes nothing.
 use mathlib.Core.Path.{sym, ◌∙◌}
 use Rattle.abi.proofs.Served.{run_not, short_ends, run_ends}
-use borrow.Author.Rules.{rules}
 use Rattle.abi.proofs.kav_run.Goals as goal
 
 pub returns-then-not-is_row : goal.returns-then-not-is_row

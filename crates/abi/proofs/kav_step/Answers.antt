@@ -1,7 +1,6 @@
 -- `abi::kav_step` meets its contract: the row is no card, or the cause has no room, or the word's call on its card, as `stepped` leaves it. Assumes nothing.
 use mathlib.Core.Path.{sym, ◌∙◌}
 use Rattle.abi.proofs.Served.{step_not, no_cause, step_ends}
-use borrow.Author.Rules.{rules}
 use Rattle.abi.proofs.kav_step.Goals as goal
 
 pub returns-then-not-is_row : goal.returns-then-not-is_row

@@ -5,7 +5,6 @@ use lib.IntN.{ℤ}
 use Rattle.number.proofs.Signed.{rd-is}
 use Rattle.abi.specs.Result.{result_of, filled, given, asked, write_asked}
 use Rattle.abi.proofs.Laws.{wide_ok}
-use borrow.Author.Rules.{rules}
 use Rattle.abi.proofs.kav_write.Goals as goal
 
 pub returns-in-Heard : goal.returns-in-Heard

@@ -6,7 +6,6 @@ use mir.ValLaws.{to_z-of_z}
 use Rattle.refusal.specs.Refusal.{number_of}
 use Rattle.refusal.proofs.Calls.{number_small}
 use Rattle.abi.proofs.Laws.{minus_fits, below_zero}
-use borrow.Author.Rules.{rules}
 use Rattle.abi.proofs.minus_number.Goals as goal
 
 pub overflow_sub-result : goal.overflow_sub-result

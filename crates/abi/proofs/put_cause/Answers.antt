@@ -5,7 +5,6 @@ use lib.IntN.{ℤ, pos}
 use lib.ListN.{set}
 use mir.Syntax.{w32}
 use mir.ValLaws.{to_z_pos}
-use borrow.Author.Rules.{rules}
 use Rattle.abi.proofs.put_cause.Goals as goal
 
 pub returns : goal.returns

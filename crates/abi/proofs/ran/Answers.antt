@@ -1,6 +1,5 @@
 -- `abi::ran` meets its contract: the refusal's number, or 0 with the card stored back and the counts. Assumes nothing.
 use Rattle.abi.proofs.Laws.{wide_ok}
-use borrow.Author.Rules.{rules}
 use Rattle.abi.proofs.ran.Goals as goal
 
 pub returns-in-Refused : goal.returns-in-Refused

@@ -2,7 +2,6 @@
 use mathlib.Core.Path.{sym, ◌∙◌}
 use Rattle.abi.specs.Result.{result_of}
 use Rattle.abi.proofs.Laws.{wide_ok}
-use borrow.Author.Rules.{rules}
 use Rattle.abi.proofs.result.Goals as goal
 
 pub returns-in-Refused : goal.returns-in-Refused

@@ -1,7 +1,6 @@
 -- `abi::stepped` meets its contract: the refusal's number, or the count with the card stored back and the cause given. Assumes nothing.
 use Rattle.abi.specs.Result.{result_of}
 use Rattle.abi.proofs.Laws.{wide_ok}
-use borrow.Author.Rules.{rules}
 use Rattle.abi.proofs.stepped.Goals as goal
 
 pub returns-in-Refused : goal.returns-in-Refused

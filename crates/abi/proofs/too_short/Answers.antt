@@ -2,7 +2,6 @@
 use mathlib.Core.Path.{ap, ◌∙◌}
 use Rattle.abi.specs.Calls.{too_short}
 use Rattle.abi.proofs.Laws.{wide_ok}
-use borrow.Author.Rules.{rules}
 use Rattle.abi.proofs.too_short.Goals as goal
 
 pub returns : goal.returns

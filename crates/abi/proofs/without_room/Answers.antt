@@ -4,7 +4,6 @@ use Rattle.abi.specs.Calls.{too_short}
 use Rattle.abi.proofs.Laws.{wide_ok}
 use Rattle.refusal.specs.declared.Verdict.{Verdict}
 use Rattle.refusal.specs.Refusal.{verdict_of}
-use borrow.Author.Rules.{rules}
 use Rattle.abi.proofs.without_room.Goals as goal
 
 pub returns-in-Refused : goal.returns-in-Refused

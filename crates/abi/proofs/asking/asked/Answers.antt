@@ -2,7 +2,6 @@
 use borrow.Author.Tests.{le-leb, lt-leb}
 use Rattle.number.proofs.Signed.{rd-is}
 use Rattle.abi.specs.Result.{asked}
-use borrow.Author.Rules.{rules}
 use Rattle.abi.proofs.asking.asked.Goals as goal
 
 pub returns-then-address-gt255 : goal.returns-then-address-gt255

@@ -2,7 +2,6 @@
 use borrow.Author.Tests.{eq-eqb, ne_eqb}
 use Rattle.number.proofs.Signed.{rd-is}
 use Rattle.abi.specs.Result.{body_of}
-use borrow.Author.Rules.{rules}
 use native.Mathlib.Omega.{arith}
 use Rattle.abi.proofs.asking.body_of.Goals as goal
 

@@ -1,6 +1,5 @@
 -- `abi::counted` meets its contract: the refusal's number, or 0 with the counts. Assumes nothing.
 use mathlib.Core.Path.{sym, ap, ◌∙◌}
-use borrow.Author.Rules.{rules}
 use Rattle.card.specs.declared.RunAnswer.{RunAnswer}
 use Rattle.card.specs.Calls.{run_outcome}
 use Rattle.abi.specs.Calls.{run_result, counts_after}

@@ -1,6 +1,5 @@
 -- `abi::kav_bus_run` meets its contract: the counts have no room, or the run over the rows, counted. Assumes nothing.
 use mathlib.Core.Path.{ap, ◌∙◌}
-use borrow.Author.Rules.{rules}
 use borrow.Author.Tests.{lt-ltb, le-ltb}
 use lib.IntN.{ℤ}
 use Rattle.card.specs.Calls.{run_outcome}

@@ -9,7 +9,6 @@ use Rattle.card.specs.Calls.{run_outcome, run_after}
 use Rattle.abi.specs.Calls.{ManyWords, run_on}
 use Rattle.abi.specs.Trace.{NotedWords, messages_in}
 use Rattle.abi.proofs.Laws.{wide_ok}
-use borrow.Author.Rules.{rules}
 use Rattle.abi.proofs.tracing.traced.Goals as goal
 
 pub returns-in-Refused : goal.returns-in-Refused
