@@ -131,7 +131,7 @@ pub fn run<'a>(
     words: &[u16],
     out: &mut [u8],
 ) -> RunAnswer
-    ensures { record { numbers = numbers.exit.now; outcome = run_outcome result; values = values.new; buffer = out.new } ≡ rows_call numbers.entry.now bench.now maker.now values.old words.now out.old }
+    ensures { record { numbers = numbers.new; outcome = run_outcome result; values = values.new; buffer = out.new } ≡ rows_call numbers.old bench.now maker.now values.old words.now out.old }
 {
     match check(numbers, bench, maker, values, words) {
         Verdict::Refused(refusal) => RunAnswer::Refused(refusal),

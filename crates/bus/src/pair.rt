@@ -255,7 +255,7 @@ pub(crate) fn take_all<'a>(
     out: &mut [u8],
 ) -> RunAnswer
     requires { first (rows_checks numbers.old bench.now maker.now values.old words.now) ≡ gave tt }
-    ensures { record { numbers = numbers.exit.now; outcome = run_outcome result; values = values.new; buffer = out.new } ≡ served_rows numbers.entry.now bench.now maker.now values.old words.now out.old }
+    ensures { record { numbers = numbers.new; outcome = run_outcome result; values = values.new; buffer = out.new } ≡ served_rows numbers.old bench.now maker.now values.old words.now out.old }
 {
     let count = numbers.len() / row::LENGTH;
     if count == 0 {

@@ -309,7 +309,7 @@ pub fn receive<'a>(
     word: u16,
     out: &mut [u8],
 ) -> StepAnswer
-    ensures { record { card = card.exit.now; outcome = step_outcome result; values = values.new; buffer = out.new } ≡ step_call card.entry.now bench.now maker.now values.old word out.old }
+    ensures { record { card = card.new; outcome = step_outcome result; values = values.new; buffer = out.new } ≡ step_call card.old bench.now maker.now values.old word out.old }
 {
     let before = *card;
     let stepped = step(before, bench, maker, values, word, out);

@@ -196,7 +196,7 @@ pub struct Next {
 
 // What a word does to an open message in its own place. A `*` that closes it leaves it for the caller to read.
 pub fn take(chars: &mut [u8; MOST], len: usize, word: u16) -> Next
-    ensures { (result ≡ next_of (record { chars = chars.entry.now; len = len }) word) × (chars.exit.now ≡ chars_of (record { chars = chars.entry.now; len = len }) word) }
+    ensures { (result ≡ next_of (record { chars = chars.old; len = len }) word) × (chars.new ≡ chars_of (record { chars = chars.old; len = len }) word) }
 {
     let action = action_at(len, word);
     match action {
@@ -261,7 +261,7 @@ fn to_letter(words: &[u16], from: usize) -> usize
 // Takes the words of an open message: up to its `*`, which is left, or behind a word that drops it.
 fn to_end(chars: &mut [u8; MOST], len: usize, words: &[u16], from: usize) -> Halt
     requires { 1 ≤ len }
-    ensures { (result ≡ halt_of (to_end (record { chars = chars.entry.now; len = len }) (drop from words.now) from)) × (chars.exit.now ≡ (to_end (record { chars = chars.entry.now; len = len }) (drop from words.now) from).pending.chars) }
+    ensures { (result ≡ halt_of (to_end (record { chars = chars.old; len = len }) (drop from words.now) from)) × (chars.new ≡ (to_end (record { chars = chars.old; len = len }) (drop from words.now) from).pending.chars) }
 {
     let mut len = len;
     let mut at = from;
@@ -287,7 +287,7 @@ fn to_end(chars: &mut [u8; MOST], len: usize, words: &[u16], from: usize) -> Hal
 
 // Takes the words from a place on, up to a `*` that closes the open message: that one is left. No message is heard on the way.
 pub fn to_close(chars: &mut [u8; MOST], len: usize, words: &[u16], from: usize) -> Halt
-    ensures { (result ≡ halt_of (to_close (record { chars = chars.entry.now; len = len }) (drop from words.now) from)) × (chars.exit.now ≡ (to_close (record { chars = chars.entry.now; len = len }) (drop from words.now) from).pending.chars) }
+    ensures { (result ≡ halt_of (to_close (record { chars = chars.old; len = len }) (drop from words.now) from)) × (chars.new ≡ (to_close (record { chars = chars.old; len = len }) (drop from words.now) from).pending.chars) }
 {
     let mut len = len;
     let mut at = from;
