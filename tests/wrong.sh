@@ -1,6 +1,7 @@
 #!/bin/sh
 # Tries the wrong programs that the gate leaves out: each edit tests/wrong/CRATE/*.edit, of the same form as those of crates/*/must-fail,
-# has to be refused by the prover. `rt must-fail` tries them in a copy of the repository.
+# has to be refused by the prover. `rt must-fail` tries them in a copy of the repository. One that is refused only by a limit of the prover, or only
+# because a proof names what it took away, counts as not refused, and so do all of a crate that isn't proved itself.
 # usage: tests/wrong.sh [CRATE..]    a line for each edit: whether it was refused, and the first thing that the prover found wrong
 # Exit status 1 where one was not refused, 2 where nothing could be tried.
 set -u
@@ -22,6 +23,7 @@ for crate; do
     edits=$copy/crates/$crate/must-fail
     [ -d "crates/$crate" ] || { echo "there is no crate $crate"; exit 2; }
     ls "tests/wrong/$crate"/*.edit > /dev/null 2>&1 || { echo "$crate has no edits here"; continue; }
+    (cd "$copy/crates/$crate" && rt check) > "$copy/said" 2>&1 || { failed=$((failed + 1)); echo "NOT PROVED   $crate"; continue; }
     mkdir "$edits" && cp "tests/wrong/$crate"/*.edit "$edits" || exit 2
     (cd "$copy" && rt must-fail "$crate") > "$copy/said" 2>&1
     for edit in "$edits"/*.edit; do

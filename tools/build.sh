@@ -9,7 +9,7 @@ for name; do
         built=crates/$name/out/lib$name.a to=target/staticlib
     else
         # A program is built where it is run: here on no input.
-        (cd "crates/$name" && rt run < /dev/null > /dev/null) || exit 1
+        (cd "crates/$name" && rt run < /dev/null) || exit 1
         built=crates/$name/out/$name to=target/bin
     fi
     mkdir -p "$to" && cp "$built" "$to/" || exit 1

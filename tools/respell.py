@@ -39,6 +39,8 @@ def main(argv):
     sources = sorted(f for f in glob.glob("crates/*/src/**/*.rt", recursive=True))
     crates = {f.split("/")[1] for f in files}
     text = {f: open(f, encoding="utf-8").read() for f in files + sources}
+    if not any(re.search(r"^ *(?:abbrev |unfoldable )*pub [a-z]+[A-Z]", t, re.M) for f, t in text.items() if "/specs/" in f):
+        sys.exit("respell: nothing to do: specs/ has no name of two words in one")
     for f in files:
         text[f] = re.sub(r"(?<![\w'.-])(?:" + "|".join(LEMMAS) + r")(?![\w'-])", lambda m: m.group(0).replace("_", "-"), text[f])
     lemmas = [f for f in files if "/specs/" in f or f.count("/") == 3]

@@ -1,4 +1,4 @@
--- A sheet of several read_only rows of step 1 from -9,999 to 9,999, one for each number of a list, with rising identifiers: it is sound, it
+-- A sheet of several read-only rows of step 1 from -9,999 to 9,999, one for each number of a list, with rising identifiers: it is sound, it
 -- shows each row for its identifier, and with the numbers in their places the values are sound. Assumes nothing.
 use mathlib.Core.Path.{◌≡◌, refl, sym, ap, ◌∙◌}
 use mathlib.Core.Bool.{true, false}
