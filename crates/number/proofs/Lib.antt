@@ -7,3 +7,4 @@ pub mod Remainder
 pub mod Cases
 pub mod Products
 pub mod Pairs
+pub mod Arms

@@ -60,6 +60,7 @@ pub fn is_multiple(x: i32, step: i32) -> bool
 }
 
 // The nearest multiple of the step that is not above x.
+#[tactic(auto, using(crate::proofs::Arms::cut_below, crate::proofs::Arms::cut_from))]
 fn cut_down(x: i32, step: i32) -> i32
     requires { (nat_abs x ≤ 9999) × (nat_abs step ≤ 9999) × (le_z (pos 1) step ≡ true) }
     ensures { result ≡ cut_down x (nat_abs step) }
@@ -135,6 +136,7 @@ pub fn fits_numeral(x: Numeral) -> bool
 }
 
 // The decimals, and 5 more below zero.
+#[tactic(auto, using(crate::proofs::Arms::code_below, crate::proofs::Arms::code_from))]
 pub fn code(number: i32, decimals: u8) -> u32
     ensures { result ≡ code_of number decimals }
 {
@@ -206,6 +208,7 @@ pub fn write_numeral(x: Numeral) -> [u8; 5]
 }
 
 // A number of four digits with the digit of its code.
+#[tactic(auto, using(crate::proofs::Arms::decode_positive, crate::proofs::Arms::decode_negative, crate::proofs::Arms::decode_invalid))]
 fn decoded(m: u32, k: u8) -> Data
     requires { m ≤ 9999 }
     ensures { result ≡ decode m k }
