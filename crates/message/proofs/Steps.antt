@@ -1,10 +1,9 @@
 -- What one character more makes of a letter, over plain variables. Assumes nothing.
-use mathlib.Core.Path.{◌≡◌, refl, sym, ap, ◌∙◌}
-use mathlib.Core.Bool.{Bool, true, false}
+use mathlib.Core.Path.{◌≡◌}
+use mathlib.Core.Bool.{true, false}
 use Prim.Native.Nat.{ℕ, ◌-◌, ◌≤◌}
 use Rattle.number.specs.Data.{is_digit, digit_of}
 use Rattle.number.proofs.Digits.{digit_ends}
-use Rattle.message.specs.declared.Prefix.{Prefix}
 use Rattle.message.specs.declared.Prefix.TheVariants.{Letter, Digit, Wrong}
 use Rattle.message.specs.Prefix.{extend}
 

@@ -1,7 +1,5 @@
 -- `message::recogniser::extend` meets its contract: the arm taken says which state it is. Assumes nothing.
 use mathlib.Core.Path.{sym, ap, ◌∙◌}
-use Rattle.number.specs.Data.{digit_of}
-use Rattle.number.proofs.Digits.{digit_ends}
 use Rattle.message.specs.Prefix.{extend_data, extend}
 use Rattle.message.proofs.recogniser.extend.Goals as goal
 
