@@ -172,6 +172,7 @@ fn place_line(at: u64, message: Message, out: &mut [u8], written: usize) -> Writ
 }
 
 // The line of a message at the front of a buffer.
+#[tactic(auto, using(crate::proofs::Calls::line_refused, crate::proofs::Calls::line_placed))]
 pub fn line(at: u64, message: Message, out: &mut [u8]) -> Written
     ensures { call_of result out.new ≡ line_call at message out.old }
 {

@@ -6,3 +6,4 @@ pub mod Short
 pub mod Examples
 pub mod Matched
 pub mod Completion
+pub mod Steps

@@ -19,8 +19,8 @@ use Rattle.refusal.proofs.Calls.{writes_refused, writes_passed}
 use Rattle.refusal.specs.declared.Refusal.TheVariants.{NotMessage}
 use Rattle.wire.specs.declared.Line.{Line}
 use Rattle.wire.specs.Word.{with_parity, travelling}
-use Rattle.wire.specs.Inner.{longest_message, empty, put, puts, line_of}
-use Rattle.wire.proofs.Lines.{puts_append, puts_empty}
+use Rattle.wire.specs.Inner.{longest_message, empty, put, puts, line_of, bytes_of}
+use Rattle.wire.proofs.Lines.{puts_append, puts_empty, line_bytes}
 use Rattle.number.specs.declared.Numeral.{Numeral}
 use Rattle.number.specs.Data.{digit, spell_numeral}
 use Rattle.number.proofs.Digits.{digit_is, AllDigits, numeral_length, numeral_digits}
@@ -190,3 +190,7 @@ message_passes m e = first_passes (refuse_if (not (is_message m)) NotMessage) []
 pub write_served : (m : Message) (out : List ℕ) → is_message m ≡ true → write_call m out ≡ writes [] (travelling (spell m)) out
 unfolding write_call
 write_served m out e = writes_passed (travelling (spell m)) out (refuse_if (not (is_message m)) NotMessage ∷ []) (message_passes m e)
+
+-- the same of the line that the message is spelled into
+pub write_line : (m : Message) (out : List ℕ) → is_message m ≡ true → write_call m out ≡ writes [] (bytes_of (line_of (spell m))) out
+write_line m out e = write_served m out e ∙ ap (λ (l : List ℕ). writes [] l out) (sym (line_bytes (spell m)))

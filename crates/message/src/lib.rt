@@ -371,6 +371,7 @@ pub fn spelled_len(message: Message) -> usize
 }
 
 // The message at the front of a buffer.
+#[tactic(auto, using(crate::proofs::Spelling::write_refused, crate::proofs::Spelling::write_line))]
 pub fn write(message: Message, out: &mut [u8]) -> Written
     ensures { call_of result out.new ≡ write_call message out.old }
 {

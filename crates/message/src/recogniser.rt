@@ -101,6 +101,7 @@ fn extend_body(letter: u8, address: u8, identifier: u8, c: u8) -> Prefix
 }
 
 // One character more.
+#[tactic(auto, using(crate::proofs::Steps::letter_wrong, crate::proofs::Steps::letter_digit, crate::proofs::Steps::digit_least))]
 fn extend(prefix: Prefix, c: u8) -> Prefix
     ensures { result ≡ extend prefix c }
 {

@@ -249,6 +249,11 @@ pub read_no_reply : (bs : List ℕ) → is_reply bs ≡ false → read_call bs �
 unfolding read_call
 read_no_reply bs e = rw (first_holds (refuse_if (not (is_reply bs)) NotReply) [] (is_not e))
 
+-- the reader's test is the guess's
+pub reply_is : (bs : List ℕ) → is_reply bs ≡ (is_answer (guess (characters_of bs)) && same eqb (travelling (spell_answer (guess (characters_of bs)))) bs)
+unfolding is_reply
+reply_is bs = refl
+
 -- every answer is read from its spelling
 pub read_spelled : (a : Answer) → is_answer a ≡ true → read_call (travelling (spell_answer a)) ≡ gave a
 unfolding is_reply

@@ -265,6 +265,7 @@ fn is_spelling(answer: Answer, bytes: &[u8]) -> bool
 }
 
 // The answer that the card gave.
+#[tactic(auto, using(crate::proofs::Reader::read_reply, crate::proofs::Reader::read_no_reply, crate::proofs::Reader::reply_is))]
 pub fn read(bytes: &[u8]) -> Reading
     ensures { outcome_of result ≡ read_call bytes.now }
 {

@@ -1,20 +1,11 @@
 -- `message::recogniser::extend` meets its contract: the arm taken says which state it is. Assumes nothing.
 use mathlib.Core.Path.{sym, ap, ◌∙◌}
-use Rattle.number.specs.Data.{digit_of}
-use Rattle.number.proofs.Digits.{digit_ends}
 use Rattle.message.specs.Prefix.{extend_data, extend}
 use Rattle.message.proofs.recogniser.extend.Goals as goal
 
 pub returns-then-is_letter : goal.returns-then-is_letter
 unfolding extend
 returns-then-is_letter c = rw c.in-Start.is (sym (rw (sym c.before.is_letter.ensures ∙ c.if-is_letter.true)))
-
-pub returns-then-not-is_digit : goal.returns-then-not-is_digit
-unfolding extend
-returns-then-not-is_digit c = rw c.in-Letter.is (sym (rw (sym c.before.is_digit.ensures ∙ c.if-not-is_digit.true)))
-
-pub overflow_sub-address : goal.overflow_sub-address
-overflow_sub-address c = (digit_ends _ (sym c.before.is_digit.ensures ∙ c.if-not-is_digit.false)).0
 
 pub extend_address-requires : goal.extend_address-requires
 extend_address-requires c = sym c.before.is_digit-in-Digit.ensures ∙ c.if-is_digit.true
@@ -29,10 +20,6 @@ returns-then-is_digit c =
 pub returns-else-is_letter : goal.returns-else-is_letter
 unfolding extend
 returns-else-is_letter c = rw c.in-Start.is (sym (rw (sym c.before.is_letter.ensures ∙ c.if-is_letter.false)))
-
-pub returns-else-not-is_digit : goal.returns-else-not-is_digit
-unfolding extend digit_of
-returns-else-not-is_digit c = rw c.in-Letter.is (sym (rw (sym c.before.is_digit.ensures ∙ c.if-not-is_digit.false)))
 
 pub returns-else-is_digit : goal.returns-else-is_digit
 unfolding extend
