@@ -26,6 +26,7 @@ fn value_of<'a>(
 }
 
 // The values of the identifiers that the card names, four or five.
+#[tactic(auto, unfolding(crate::specs::Act::scan_of))]
 fn scan_of<'a>(
     setup: Setup,
     bench: &'a [i32],

@@ -8,3 +8,4 @@ pub mod Plays
 pub mod Taking
 pub mod Said
 pub mod Revised
+pub mod Scans

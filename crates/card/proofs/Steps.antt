@@ -17,12 +17,14 @@ use Rattle.reply.specs.Reply.{longest_reply}
 use Rattle.sheet.specs.Sheet.{sound_sheet}
 use Rattle.sheet.specs.Values.{sound_values}
 use Rattle.card.specs.declared.Card.{Card}
+use Rattle.card.specs.declared.StepAnswer.TheVariants.{Refused}
+use Rattle.refusal.specs.declared.Refusal.TheVariants.{RoomTooShort}
 use Rattle.act.specs.Cause.{Why}
 use Rattle.card.specs.Cause.{why_to}
 use Rattle.card.specs.Turn.{turn, stored, play}
 use Rattle.card.proofs.Turns.{stays}
 use Rattle.card.specs.Refusals.{sound_card, sound_offer, sound_scan, card_checks, room_check, step_checks}
-use Rattle.card.specs.Calls.{After, kept, WordAnswer, bytes_of, answered, step_call, ended, run_call}
+use Rattle.card.specs.Calls.{After, kept, WordAnswer, bytes_of, step_after, answered, step_call, ended, run_call}
 
 -- a test that is passed
 passes : {b : Bool} → b ≡ true → not b ≡ false
@@ -104,6 +106,11 @@ room_short out h = first_holds (room_check out) [] (lt-ltb (length out) longest_
 
 pub room_enough : (out : List ℕ) → longest_reply ≤ length out → first (room_check out ∷ []) ≡ gave tt
 room_enough out h = first_passes (room_check out) [] (le-ltb (length out) longest_reply h) ∙ first_none
+
+-- a word refused for want of room, as the code gives it
+pub short_taken : (c : Card) (bench maker values : List ℤ) (w : ℕ) (out : List ℕ) → length out < longest_reply
+    → decided (first (room_check out ∷ [])) (kept c values out) (answered (turn bench maker c values w) (why_to bench maker c values w) values out) ≡ step_after (record { card = c; answer = Refused RoomTooShort }) values out
+short_taken c bench maker values w out h = rw (room_short out h)
 
 -- ---- the calls
 

@@ -184,6 +184,7 @@ fn four_readable<'a>(bench: &'a [i32], maker: &'a [i32], a: u8, b: u8, c: u8, d:
 }
 
 // The identifiers that a card names for its scan, and `]` without a row.
+#[tactic(auto, using(crate::proofs::Scans::other_count))]
 pub fn sound_scan<'a>(bench: &'a [i32], maker: &'a [i32], setup: Setup) -> bool
     ensures { result ≡ sound_scan bench.now maker.now setup }
 {
@@ -255,6 +256,7 @@ fn refused(card: Card, refusal: Refusal) -> Stepped
 }
 
 // The single word of a call that passed: number 5, or what the word does.
+#[tactic(auto, using(crate::proofs::Steps::short_taken))]
 fn take<'a>(
     card: Card,
     bench: &'a [i32],

@@ -7,3 +7,4 @@ pub mod Quiet
 pub mod Loops
 pub mod Shortest
 pub mod Unopened
+pub mod Signs

