@@ -201,6 +201,7 @@ pub extern "C" fn kav_read(bytes: &[u8], answer: &mut [i32]) -> i64
 }
 
 // One row: 6 with its numbers copied, or 0.
+#[tactic(auto, using(crate::proofs::Laws::lookup_short, crate::proofs::Laws::wide_ok))]
 #[unsafe(no_mangle)]
 pub extern "C" fn kav_lookup<'a>(
     bench: &'a [i32],
