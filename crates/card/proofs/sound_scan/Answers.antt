@@ -32,6 +32,6 @@ returns-then-setup-eq4 c =
 pub returns : goal.returns
 unfolding sound_scan names_from every
 returns c =
-    let five : c.args.setup.count ≡ 5 = omega arith in
+    let five : c.args.setup.count ≡ 5 = grind arith in
     ap₂ (λ (x y : Bool). x && y) c.has_readable_row.ensures c.four_readable-2.ensures
     ∙ sym (rw (rows _ _ _ _ c.has_row.ensures c.has_row-2.ensures ∙ c.if-has_row.false, five))
