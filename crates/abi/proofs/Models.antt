@@ -23,7 +23,6 @@ use Rattle.hearing.proofs.Sound.{none_sound}
 use Rattle.sheet.specs.Sheet.{rows, sound_sheet}
 use Rattle.sheet.specs.Lookup.{has_row, place_in, place_among}
 use Rattle.sheet.proofs.Tables.{sheet-test}
-use Rattle.act.specs.declared.Offer.TheVariants.{Nothing}
 use Rattle.act.specs.Act.{names_from}
 use Rattle.card.specs.declared.Card.{Card}
 use Rattle.card.specs.Refusals.{is_revision, sound_setup, sound_card, sound_offer, sound_scan, card_checks}
@@ -38,6 +37,7 @@ use Rattle.models.specs.Model.{Model, controller, programmer, indicator}
 use Rattle.models.proofs.Models.{SoundModel, are_readable, dcp100_controller_sound, dcp100_programmer_sound, udi1500_sound, dcp100_controller_scan_readable, udi1500_scan_readable}
 use Rattle.abi.specs.Result.{minus_number, count_result}
 use Rattle.abi.specs.Models.{setup_numbers, model_setup, model_given, given_into, model_into}
+use Rattle.std.specs.Prelude.{None}
 
 -- the row that a host makes of the setup: its letter, an address, no open message and no offer, its scan, a revision
 abbrev pub row_with_setup : List ℤ → ℕ → ℕ → List ℤ
@@ -46,7 +46,7 @@ row_with_setup setup address revision = take 1 setup ++ (pos address ∷ (replic
 -- the card that it is
 abbrev pub model_card : Model → ℕ → ℕ → Card
 model_card i a v =
-    record { setup = record { letter = i.letter; address = a; count = length i.scan; scan = padded i.scan; revision = v }; pending = none; offer = Nothing }
+    record { setup = record { letter = i.letter; address = a; count = length i.scan; scan = padded i.scan; revision = v }; pending = none; offer = None }
 
 -- what is computed of each instrument; n numbers are its sheet
 pub record Complete (i : Model) (n : ℕ) : Type 0 where

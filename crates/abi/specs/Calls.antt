@@ -1,4 +1,5 @@
 -- The calls that take a card, or many, as rows of twenty-three numbers: what each gives back, and all that it leaves, for every input.
+use Rattle.card.specs.declared.Took.{Took}
 use Rattle.std.specs.Prelude.{cond, List, [], ◌∷◌, ℕ, ltb, ℤ, pos, length, set}
 use Rattle.refusal.specs.Refusal.{Outcome, refused, gave, number_of}
 use Rattle.refusal.specs.Check.{first}
@@ -6,7 +7,7 @@ use Rattle.refusal.specs.declared.Refusal.TheVariants.{UnsoundCard, RoomTooShort
 use Rattle.card.specs.declared.Card.{Card}
 use Rattle.card.specs.Refusals.{card_checks}
 use Rattle.act.specs.Cause.{Why}
-use Rattle.card.specs.Calls.{After, WordAnswer, bytes_of, step_call, Took, run_call}
+use Rattle.card.specs.Calls.{After, WordAnswer, bytes_of, step_call, run_call}
 use Rattle.row.specs.Row.{is_row, card_of, stored_in}
 use Rattle.bus.specs.Rows.{rows_checks, RowsAfter, rows_call}
 use Rattle.abi.specs.Result.{minus_number, result_of}

@@ -11,8 +11,8 @@ use Rattle.message.specs.Prefix.{message}
 use Rattle.message.specs.Spell.{write_call}
 use Rattle.listing.specs.Line.{line_call}
 use Rattle.message.specs.declared.Body.TheVariants.{Status, Query, Up, Down, Set, Store}
-use Rattle.message.specs.declared.Parsed.{Parsed}
-use Rattle.message.specs.declared.Parsed.TheVariants.{Heard, Unheard}
+use Rattle.std.specs.Prelude.{None, Option, Some}
+use Rattle.message.specs.declared.Message.{Message}
 
 -- the greatest i64
 abbrev pub greatest : ℕ
@@ -48,26 +48,26 @@ given c = filled (result_of c.outcome) c.buffer
 -- ---- the message that a host asks for, by the first character of its body; what fits no byte is no message
 
 -- z is 1 for minus zero and 0 for any other number
-unfoldable pub set_of : ℕ → ℕ → ℕ → ℤ → ℕ → ℕ → Parsed
-set_of l a i n d z = cond (leb d 255 && leb z 1) (Heard (message l a i (Set (with_sign (with_decimals n d) (eqb z 1))))) Unheard
+unfoldable pub set_of : ℕ → ℕ → ℕ → ℤ → ℕ → ℕ → Option Message
+set_of l a i n d z = cond (leb d 255 && leb z 1) (Some (message l a i (Set (with_sign (with_decimals n d) (eqb z 1))))) None
 
-unfoldable pub body_of : ℕ → ℕ → ℕ → ℕ → ℤ → ℕ → ℕ → Parsed
+unfoldable pub body_of : ℕ → ℕ → ℕ → ℕ → ℤ → ℕ → ℕ → Option Message
 body_of l a i k n d z =
-    cond (eqb k question) (cond (eqb i question) (Heard (message l a i Status)) (Heard (message l a i Query)))
-    (cond (eqb k (code "+")) (Heard (message l a i Up))
-    (cond (eqb k (code "-")) (Heard (message l a i Down))
-    (cond (eqb k (code "I")) (Heard (message l a i Store))
-    (cond (eqb k (code "#")) (set_of l a i n d z) Unheard))))
+    cond (eqb k question) (cond (eqb i question) (Some (message l a i Status)) (Some (message l a i Query)))
+    (cond (eqb k (code "+")) (Some (message l a i Up))
+    (cond (eqb k (code "-")) (Some (message l a i Down))
+    (cond (eqb k (code "I")) (Some (message l a i Store))
+    (cond (eqb k (code "#")) (set_of l a i n d z) None))))
 
-unfoldable pub asked : ℕ → ℕ → ℕ → ℕ → ℤ → ℕ → ℕ → Parsed
-asked l a i k n d z = cond (leb a 255) (body_of l a i k n d z) Unheard
+unfoldable pub asked : ℕ → ℕ → ℕ → ℕ → ℤ → ℕ → ℕ → Option Message
+asked l a i k n d z = cond (leb a 255) (body_of l a i k n d z) None
 
 -- document 01, number 7: "asked for something that isn't a heard message"
-unfoldable pub write_asked : Parsed → List ℕ → Call
-write_asked (Heard m) out = write_call m out
-write_asked Unheard out = refuses out (number_of NotMessage)
+unfoldable pub write_asked : Option Message → List ℕ → Call
+write_asked (Some m) out = write_call m out
+write_asked None out = refuses out (number_of NotMessage)
 
 -- the line of the listing, in the same way
-unfoldable pub line_asked : ℕ → Parsed → List ℕ → Call
-line_asked at (Heard m) out = line_call at m out
-line_asked at Unheard out = refuses out (number_of NotMessage)
+unfoldable pub line_asked : ℕ → Option Message → List ℕ → Call
+line_asked at (Some m) out = line_call at m out
+line_asked at None out = refuses out (number_of NotMessage)

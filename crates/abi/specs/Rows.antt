@@ -6,6 +6,7 @@ use Rattle.refusal.specs.declared.Refusal.TheVariants.{RoomTooShort}
 use Rattle.number.specs.declared.Decimal.{Decimal}
 use Rattle.reply.specs.Reply.{mark_of, numbers_in}
 use Rattle.reply.specs.declared.Answer.{Answer}
+use Rattle.reply.specs.declared.Content.{Content}
 use Rattle.abi.specs.Result.{minus_number, Filled, filled}
 
 -- how many numbers an answer has
@@ -16,6 +17,10 @@ answer_length = 15
 unfoldable pub pairs : List Decimal → List ℤ
 pairs [] = []
 pairs (x ∷ xs) = x.number ∷ pos x.decimals ∷ pairs xs
+
+-- so many numbers, and none where there is none
+unfoldable pub five_of : Content → ℕ × List Decimal
+five_of k = (length (numbers_in k), numbers_in k ++ replicate (5 - length (numbers_in k)) (record { number = pos 0; decimals = 0 }))
 
 -- letter, address, identifier, `A` `I` or `N`, how many numbers there are, and each with its decimals; 0 behind the last of five
 unfoldable pub answer_row : Answer → List ℤ

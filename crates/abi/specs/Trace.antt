@@ -1,9 +1,9 @@
 -- The trace of a card as a row of twenty-three numbers: what it gives back, and all that it leaves, for every input.
+use Rattle.card.specs.declared.Took.{Took}
 use Rattle.std.specs.Prelude.{cond, List, ℕ, ltb, ℤ, length, set}
 use Rattle.refusal.specs.Refusal.{Outcome, refused, gave, number_of}
 use Rattle.refusal.specs.Check.{first}
 use Rattle.refusal.specs.declared.Refusal.TheVariants.{UnsoundCard}
-use Rattle.card.specs.Calls.{Took}
 use Rattle.trace.specs.Calls.{trace_checks, TraceAfter, trace_call}
 use Rattle.row.specs.Row.{is_row, card_of}
 use Rattle.abi.specs.Result.{minus_number}

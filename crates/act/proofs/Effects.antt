@@ -24,8 +24,6 @@ use Rattle.message.specs.declared.Message.{Message}
 use Rattle.message.specs.Message.{question}
 use Rattle.message.proofs.Messages.{Parts, BodyParts, body_parts}
 use Rattle.sheet.specs.declared.Row.{Row}
-use Rattle.sheet.specs.declared.Entry.{Entry}
-use Rattle.sheet.specs.declared.Entry.TheVariants.{Found, Missing}
 use Rattle.sheet.specs.Values.{entry_in, is_readable, is_writable, is_read_write, fits_row, sound_values}
 use Rattle.sheet.proofs.Values.{SoundRow, entry_sound, good_values, fits_parts, range_small, value-small, up_fits, down_fits, cut_fits}
 use Rattle.reply.specs.declared.Mark.{Mark}
@@ -36,44 +34,48 @@ use Rattle.reply.specs.declared.Answer.{Answer}
 use Rattle.reply.specs.Reply.{scan_identifier, is_no_number, fits_content, is_answer}
 use Rattle.reply.proofs.Reader.{parts_answer, content_number, content_status, scan_no_status, scan_four, scan_five}
 use Rattle.act.specs.declared.Setup.{Setup}
-use Rattle.act.specs.declared.Offer.{Offer}
-use Rattle.act.specs.declared.Offer.TheVariants.{Nothing, Held}
-use Rattle.act.specs.declared.Said.TheVariants.{Silence, Reply}
-use Rattle.act.specs.declared.Store.TheVariants.{Keep, Put}
 use Rattle.act.specs.declared.Effect.{Effect}
 use Rattle.act.specs.Cause.{row_or_zeros, is_for, takes_zero}
 use Rattle.act.specs.Act.{answer_to, no_number, says, accepts, shown_by, offers, named, value_of, scan_of, act}
 use Rattle.act.proofs.Judged.{act_is}
 use Rattle.act.specs.Inner.{declines, query, moves, up, down, set_to, store, serve, declines_scan, serve_scan, addressed}
+use Rattle.std.proofs.lemmas.Option.{none-some}
+use Rattle.std.specs.Prelude.{None, Option, Some}
+use Rattle.act.specs.Act.{storing}
+use Rattle.act.specs.declared.Offer.{Offer}
+use Rattle.act.specs.declared.Store.{Store}
 
 -- the row of i allows the value z
 pub record Allowed (bench maker : List ℤ) (i : ℕ) (z : ℤ) : Type 0 where
   pub row : Row
-  pub found : entry_in bench maker i ≡ Found row
+  pub found : entry_in bench maker i ≡ Some row
   pub fits : fits_row row z ≡ true
 
 -- what is on offer, its row allows
-abbrev pub Fair : List ℤ → List ℤ → Offer → Type 0
-Fair bench maker Nothing = Unit {0}
-Fair bench maker (Held i z) = Allowed bench maker i z
+abbrev pub Fair : List ℤ → List ℤ → Option Offer → Type 0
+Fair bench maker None = Unit {0}
+Fair bench maker (Some o) = Allowed bench maker o.identifier o.value
 
 -- the identifiers that a card names for its scan have rows, and it names none, four or five
 pub record FairScan (bench maker : List ℤ) (c : Setup) : Type 0 where
   pub many : (eqb c.count 0 || eqb c.count 4 || eqb c.count 5) ≡ true
-  pub rows : (k : ℕ) → k < c.count → (r : Row) × (entry_in bench maker (named c k) ≡ Found r)
+  pub rows : (k : ℕ) → k < c.count → (r : Row) × (entry_in bench maker (named c k) ≡ Some r)
 
 -- what it stores, the row allows, and what it says is an answer
 pub record Good (bench maker : List ℤ) (x : Effect) : Type 0 where
-  pub stores : (i : ℕ) (z : ℤ) → x.store ≡ Put i z → Allowed bench maker i z
-  pub answers : (a : Answer) → x.said ≡ Reply a → is_answer a ≡ true
+  pub stores : (i : ℕ) (z : ℤ) → x.store ≡ storing i z → Allowed bench maker i z
+  pub answers : (a : Answer) → x.said ≡ Some a → is_answer a ≡ true
 
-kept : {X : Type 0} {i : ℕ} {z : ℤ} → Keep ≡ Put i z → X
-kept e = absurd (let z : ◌≡◌ {A = ℕ} 0 1 = cc in omega arith)
+-- what is stored, and where
+abbrev place_in : Option Store → ℕ
+place_in (Some s) = s.place
+place_in None = 0
 
-quiet : {X : Type 0} {a : Answer} → Silence ≡ Reply a → X
-quiet e = absurd (let z : ◌≡◌ {A = ℕ} 0 1 = cc in omega arith)
+abbrev value_in : Option Store → ℤ
+value_in (Some s) = s.value
+value_in None = pos 0
 
-said_is : (a b : Answer) → Reply a ≡ Reply b → is_answer a ≡ true → is_answer b ≡ true
+said_is : (a b : Answer) → Some a ≡ Some b → is_answer a ≡ true → is_answer b ≡ true
 said_is a b e h = let q : a ≡ b = cc in rw q at h
 
 -- what is in the range of a sound row can be written with the row's decimals
@@ -96,20 +98,20 @@ zero_fits = within_fits (with_decimals (pos 0) 0) (lit≤ tt) (lit≤ tt)
 
 module _ (bench maker : List ℤ) where
   -- nothing said and nothing stored, whatever is on offer
-  pub good_silence : (o : Offer) → Good bench maker (record { said = Silence; offer = o; store = Keep })
-  good_silence o = record { stores = λ i z e. kept e; answers = λ a e. quiet e }
+  pub good_silence : (o : Option Offer) → Good bench maker (record { said = None; offer = o; store = None })
+  good_silence o = record { stores = λ i z e. absurd (none-some _ e); answers = λ a e. absurd (none-some _ e) }
 
   module _ (m : Message) where
     good_says : (k : Mark) (x : Content) → is_answer (answer_to m k x) ≡ true → Good bench maker (says m k x)
     unfolding says
-    good_says k x h = record { stores = λ i z e. kept e; answers = λ a e. said_is (answer_to m k x) a e h }
+    good_says k x h = record { stores = λ i z e. absurd (none-some _ e); answers = λ a e. said_is (answer_to m k x) a e h }
 
     good_accepts : (z : ℤ) (d : ℕ) → is_answer (answer_to m Accepted (Number (with_decimals z d))) ≡ true → Allowed bench maker m.identifier z → Good bench maker (accepts m z d)
     unfolding accepts
     good_accepts z d h p = record {
       stores = λ i y e.
-          let q : m.identifier ≡ i = cc in
-          let s : z ≡ y = cc in
+          let q : m.identifier ≡ i = ap place_in e in
+          let s : z ≡ y = ap value_in e in
           subst (λ (k : ℕ). Allowed bench maker k y) q (subst (Allowed bench maker m.identifier) s p);
       answers = λ a e. said_is (answer_to m Accepted (Number (with_decimals z d))) a e h;
     }
@@ -117,7 +119,7 @@ module _ (bench maker : List ℤ) where
 -- ---- a message m, under sound values
 
 module _ (bench maker values : List ℤ) (v : sound_values bench maker values ≡ true) (m : Message) (p : Parts m) where
-  abbrev entry : Entry
+  abbrev entry : Option Row
   entry = entry_in bench maker m.identifier
 
   abbrev value : ℤ
@@ -133,7 +135,7 @@ module _ (bench maker values : List ℤ) (v : sound_values bench maker values �
     number k x f = known k (Number x) (content_number m.identifier k x (record { no_status = q; fit = f; no_scan = rw u }))
 
     -- with a row r
-    module _ (r : Row) (f : entry ≡ Found r) where
+    module _ (r : Row) (f : entry ≡ Some r) where
       row_sound : SoundRow r
       row_sound = entry_sound bench maker m.identifier r f
 
@@ -161,62 +163,62 @@ module _ (bench maker values : List ℤ) (v : sound_values bench maker values �
           let s = lowered_is value r.step (value-small r row_sound value held) row_sound.step_most in
           rw s (down_fits r value held (rw s at e))
 
-    shown : (e : Entry) → entry ≡ e → is_answer (answer_to m Declined (shown_by e value)) ≡ true
+    shown : (e : Option Row) → entry ≡ e → is_answer (answer_to m Declined (shown_by e value)) ≡ true
     unfolding shown_by
-    shown (Found r) f =
+    shown (Some r) f =
         choice (λ (x : Content). is_answer (answer_to m Declined x) ≡ true) (is_readable r)
         (λ t. held_known r f Declined) (λ t. number Declined (with_decimals (pos 0) 0) zero_fits)
-    shown Missing f = number Declined (with_decimals (pos 0) 0) zero_fits
+    shown None f = number Declined (with_decimals (pos 0) 0) zero_fits
 
-    good_declines : (e : Entry) → entry ≡ e → Good bench maker (declines m e value)
+    good_declines : (e : Option Row) → entry ≡ e → Good bench maker (declines m e value)
     unfolding declines
     good_declines e f = good_says bench maker m Declined (shown_by e value) (shown e f)
 
-    good_query : (e : Entry) → entry ≡ e → Good bench maker (query m e value)
+    good_query : (e : Option Row) → entry ≡ e → Good bench maker (query m e value)
     unfolding query
-    good_query (Found r) f =
+    good_query (Some r) f =
         choice (Good bench maker) (is_readable r)
-        (λ t. good_says bench maker m Accepted (Number (with_decimals value r.decimals)) (held_known r f Accepted)) (λ t. good_declines (Found r) f)
-    good_query Missing f = good_declines Missing f
+        (λ t. good_says bench maker m Accepted (Number (with_decimals value r.decimals)) (held_known r f Accepted)) (λ t. good_declines (Some r) f)
+    good_query None f = good_declines None f
 
-    good_moves : (r : Row) (z : ℤ) → entry ≡ Found r → (in_range r.least z r.greatest ≡ true → fits_row r z ≡ true) → Good bench maker (moves m r value z)
+    good_moves : (r : Row) (z : ℤ) → entry ≡ Some r → (in_range r.least z r.greatest ≡ true → fits_row r z ≡ true) → Good bench maker (moves m r value z)
     unfolding moves
     good_moves r z f h =
         choice (Good bench maker) (is_read_write r && in_range r.least z r.greatest)
-        (λ t. stores r f z (h (and_right (is_read_write r) (in_range r.least z r.greatest) t))) (λ t. good_declines (Found r) f)
+        (λ t. stores r f z (h (and_right (is_read_write r) (in_range r.least z r.greatest) t))) (λ t. good_declines (Some r) f)
 
-    good_up : (e : Entry) → entry ≡ e → Good bench maker (up m e value)
+    good_up : (e : Option Row) → entry ≡ e → Good bench maker (up m e value)
     unfolding up
-    good_up (Found r) f = good_moves r (raised value r.step) f (raises r f)
-    good_up Missing f = good_declines Missing f
+    good_up (Some r) f = good_moves r (raised value r.step) f (raises r f)
+    good_up None f = good_declines None f
 
-    good_down : (e : Entry) → entry ≡ e → Good bench maker (down m e value)
+    good_down : (e : Option Row) → entry ≡ e → Good bench maker (down m e value)
     unfolding down
-    good_down (Found r) f = good_moves r (lowered value r.step) f (lowers r f)
-    good_down Missing f = good_declines Missing f
+    good_down (Some r) f = good_moves r (lowered value r.step) f (lowers r f)
+    good_down None f = good_declines None f
 
-    good_set : (c : Setup) (e : Entry) (x : Numeral) → entry ≡ e → Good bench maker (set_to c m e value x)
+    good_set : (c : Setup) (e : Option Row) (x : Numeral) → entry ≡ e → Good bench maker (set_to c m e value x)
     unfolding set_to offers
-    good_set c (Found r) x f =
+    good_set c (Some r) x f =
         choice (Good bench maker) (is_writable r && eqb x.decimals r.decimals && takes_zero c (body.Set x) && in_range r.least x.number r.greatest)
         (λ t.
         let z = cut x.number r.step in
         let h = in_row r f Offered z (fits_parts r z (cut_fits r (row_sound r f) x.number (search ands))).0 in
-        record { stores = λ i y e. kept e; answers = λ a e. said_is (answer_to m Offered (Number (with_decimals z r.decimals))) a e h })
-        (λ t. good_declines (Found r) f)
-    good_set c Missing x f = good_declines Missing f
+        record { stores = λ i y e. absurd (none-some _ e); answers = λ a e. said_is (answer_to m Offered (Number (with_decimals z r.decimals))) a e h })
+        (λ t. good_declines (Some r) f)
+    good_set c None x f = good_declines None f
 
-    good_store : (o : Offer) → Fair bench maker o → Good bench maker (store m entry o)
+    good_store : (o : Option Offer) → Fair bench maker o → Good bench maker (store m entry o)
     unfolding store
-    good_store (Held i z) g =
-        choice (Good bench maker) (eqb i m.identifier)
+    good_store (Some o) g =
+        choice (Good bench maker) (eqb o.identifier m.identifier)
         (λ t.
-        let f : entry ≡ Found g.row = ap (entry_in bench maker) (sym (eqb-true i m.identifier t)) ∙ g.found in
-        subst (λ (e : Entry). Good bench maker (accepts m z (row_or_zeros e).decimals)) (sym f) (stores g.row f z g.fits))
-        (λ t. good_silence bench maker Nothing)
-    good_store Nothing g = good_silence bench maker Nothing
+        let f : entry ≡ Some g.row = ap (entry_in bench maker) (sym (eqb-true o.identifier m.identifier t)) ∙ g.found in
+        subst (λ (e : Option Row). Good bench maker (accepts m o.value (row_or_zeros e).decimals)) (sym f) (stores g.row f o.value g.fits))
+        (λ t. good_silence bench maker None)
+    good_store None g = good_silence bench maker None
 
-  good_serve : (c : Setup) (o : Offer) → Fair bench maker o → eqb m.identifier scan_identifier ≡ false → (b : Body) → BodyParts m.identifier b → Good bench maker (serve c m entry o value b)
+  good_serve : (c : Setup) (o : Option Offer) → Fair bench maker o → eqb m.identifier scan_identifier ≡ false → (b : Body) → BodyParts m.identifier b → Good bench maker (serve c m entry o value b)
   unfolding serve
   good_serve c o g u body.Status f = good_says bench maker m Accepted Empty (known Accepted Empty (content_status m.identifier f))
   good_serve c o g u body.Query f = good_query f u entry refl
@@ -262,9 +264,9 @@ module _ (bench maker values : List ℤ) (v : sound_values bench maker values �
       good_scan body.Up = good_declined
       good_scan body.Down = good_declined
       good_scan (body.Set x) = good_declined
-      good_scan body.Store = good_silence bench maker Nothing
+      good_scan body.Store = good_silence bench maker None
 
-  pub good_act : (c : Setup) (o : Offer) → FairScan bench maker c → Fair bench maker o → Good bench maker (act bench maker c o values m)
+  pub good_act : (c : Setup) (o : Option Offer) → FairScan bench maker c → Fair bench maker o → Good bench maker (act bench maker c o values m)
   unfolding addressed
   good_act c o s g =
       subst (Good bench maker) (sym (act_is bench maker c o values m))

@@ -23,15 +23,15 @@ use Rattle.reply.specs.declared.Content.{Content}
 use Rattle.reply.specs.declared.Answer.{Answer}
 use Rattle.reply.specs.Reply.{scan_identifier}
 use Rattle.act.specs.declared.Setup.{Setup}
-use Rattle.act.specs.declared.Offer.{Offer}
-use Rattle.act.specs.declared.Said.{Said}
-use Rattle.act.specs.declared.Said.TheVariants.{Silence, Reply}
 use Rattle.act.specs.declared.Effect.{Effect}
 use Rattle.act.specs.declared.causes.Standing.{Standing}
 use Rattle.act.specs.declared.causes.Cause.{Cause}
-use Rattle.act.specs.declared.causes.Cause.TheVariants.{None, NoSuchIdentifier, Access, WrongDecimals, OutOfRange, AtLimit, NotForThisCard, NoOffer, NoMessageClosed, NotWellFormed, MinusZero}
+use Rattle.act.specs.declared.causes.Cause.TheVariants.{NoSuchIdentifier, Access, WrongDecimals, OutOfRange, AtLimit, NotForThisCard, NoOffer, NoMessageClosed, NotWellFormed, MinusZero}
 use Rattle.act.specs.Cause.{Why, why_of, is_for, causes, because, causes_of_n, silences, is_one_of}
 use Rattle.act.specs.Act.{says, accepts, offers, granted, turned_down, respond, act, causes_in}
+use Rattle.std.proofs.lemmas.Option.{none-some}
+use Rattle.std.specs.Prelude.{None, Option, Some}
+use Rattle.act.specs.declared.Offer.{Offer}
 
 -- ---- the codes of the list
 
@@ -46,61 +46,58 @@ unfolding every causes fits_code is_one_of causes_of_n silences
 fits_each c m s = refl
 
 -- under these sheets and values: the codes of a heard message
-pub code_ends : (bench maker : List ℤ) (c : Setup) (o : Offer) (values : List ℤ) (m : Message) (n : ℕ) → first (causes_in bench maker c o values m) ≡ refused n → (0 < n) × (n < 9)
+pub code_ends : (bench maker : List ℤ) (c : Setup) (o : Option Offer) (values : List ℤ) (m : Message) (n : ℕ) → first (causes_in bench maker c o values m) ≡ refused n → (0 < n) × (n < 9)
 unfolding causes_in fits_code
 code_ends bench maker c o values m n e =
     let h = first_among fits_code (causes c m _) n (fits_each c m _) e in
     (ltb-true 0 n (search ands), ltb-true n 9 (search ands))
 
 -- a message for another card
-pub cause_other : (bench maker : List ℤ) (c : Setup) (o : Offer) (values : List ℤ) (m : Message) → is_for c m ≡ false → first (causes_in bench maker c o values m) ≡ refused 7
+pub cause_other : (bench maker : List ℤ) (c : Setup) (o : Option Offer) (values : List ℤ) (m : Message) → is_for c m ≡ false → first (causes_in bench maker c o values m) ≡ refused 7
 unfolding first causes causes_in
 cause_other bench maker c o values m t = rw t
 
 -- ---- what is said with each cause
 
 -- what is said is `A` or `I` exactly with no cause, `N` exactly with a cause of `N`, and nothing exactly with a cause of silence
-pub record Fits (x : Said) (n : ℕ) : Type 0 where
-  pub accepted : ((a : Answer) × (x ≡ Reply a) × (a.mark ≡ Declined → ⊥)) ↔ (n ≡ 0)
-  pub declined : ((a : Answer) × (x ≡ Reply a) × (a.mark ≡ Declined)) ↔ (is_one_of n causes_of_n ≡ true)
-  pub silent : (x ≡ Silence) ↔ (is_one_of n silences ≡ true)
+pub record Fits (x : Option Answer) (n : ℕ) : Type 0 where
+  pub accepted : ((a : Answer) × (x ≡ Some a) × (a.mark ≡ Declined → ⊥)) ↔ (n ≡ 0)
+  pub declined : ((a : Answer) × (x ≡ Some a) × (a.mark ≡ Declined)) ↔ (is_one_of n causes_of_n ≡ true)
+  pub silent : (x ≡ None) ↔ (is_one_of n silences ≡ true)
 
--- another mark, and silence, are no `N`
-no_reply : {a : Answer} → Silence ≡ Reply a → ⊥
-no_reply e = let z : ◌≡◌ {A = ℕ} 0 1 = cc in omega arith
-
-same_mark : (a b : Answer) → Reply a ≡ Reply b → a.mark ≡ b.mark
+same_mark : (a b : Answer) → Some a ≡ Some b → a.mark ≡ b.mark
 same_mark a b e = cc
 
-pub fits_silence : (n : ℕ) → (n ≡ 0 → ⊥) → is_one_of n causes_of_n ≡ false → is_one_of n silences ≡ true → Fits Silence n
+pub fits_silence : (n : ℕ) → (n ≡ 0 → ⊥) → is_one_of n causes_of_n ≡ false → is_one_of n silences ≡ true → Fits None n
 fits_silence n f p q = record {
-  accepted = (λ d. absurd (no_reply d.1), λ z. absurd (f z));
-  declined = (λ d. absurd (no_reply d.1), λ t. absurd (false≢true (sym p ∙ t)));
+  accepted = (λ d. absurd (none-some _ d.1), λ z. absurd (f z));
+  declined = (λ d. absurd (none-some _ d.1), λ t. absurd (false≢true (sym p ∙ t)));
   silent = (λ e. q, λ t. refl);
 }
 
-fits_declined : (a : Answer) (n : ℕ) → (n ≡ 0 → ⊥) → a.mark ≡ Declined → is_one_of n causes_of_n ≡ true → is_one_of n silences ≡ false → Fits (Reply a) n
+fits_declined : (a : Answer) (n : ℕ) → (n ≡ 0 → ⊥) → a.mark ≡ Declined → is_one_of n causes_of_n ≡ true → is_one_of n silences ≡ false → Fits (Some a) n
 fits_declined a n f k p q = record {
   accepted = (λ d. absurd (d.2 (sym (same_mark a d.0 d.1) ∙ k)), λ z. absurd (f z));
   declined = (λ d. p, λ t. (a, refl, k));
-  silent = (λ e. absurd (no_reply (sym e)), λ t. absurd (false≢true (sym q ∙ t)));
+  silent = (λ e. absurd (none-some _ (sym e)), λ t. absurd (false≢true (sym q ∙ t)));
 }
 
-fits_accepted : (a : Answer) → (a.mark ≡ Declined → ⊥) → Fits (Reply a) 0
+fits_accepted : (a : Answer) → (a.mark ≡ Declined → ⊥) → Fits (Some a) 0
 unfolding is_one_of causes_of_n silences
 fits_accepted a f = record {
   accepted = (λ d. refl, λ z. (a, refl, f));
   declined = (λ d. absurd (f (same_mark a d.0 d.1 ∙ d.2)), λ t. absurd (false≢true t));
-  silent = (λ e. absurd (no_reply (sym e)), λ t. absurd (false≢true t));
+  silent = (λ e. absurd (none-some _ (sym e)), λ t. absurd (false≢true t));
 }
 
+-- the other marks are no `N`
 accepted_other : Accepted ≡ Declined → ⊥
 accepted_other e = let z : ◌≡◌ {A = ℕ} 0 1 = cc in omega arith
 
 offered_other : Offered ≡ Declined → ⊥
 offered_other e = let z : ◌≡◌ {A = ℕ} 0 1 = cc in omega arith
 
-module _ (o : Offer) (m : Message) where
+module _ (o : Option Offer) (m : Message) where
   says_declined : (x : Content) (n : ℕ) → (n ≡ 0 → ⊥) → is_one_of n causes_of_n ≡ true → is_one_of n silences ≡ false → Fits (says m Declined x).said n
   unfolding says
   says_declined x n f = fits_declined _ n f refl
@@ -132,7 +129,7 @@ module _ (o : Offer) (m : Message) where
       some : n ≡ 0 → ⊥
       some z = omega (arith, z, ltb-true 0 n (search ands))
 
-      silent : (is_one_of n silences && not (is_one_of n causes_of_n)) ≡ true → Fits Silence n
+      silent : (is_one_of n silences && not (is_one_of n causes_of_n)) ≡ true → Fits None n
       silent e = fits_silence n some (not_is {a = is_one_of n causes_of_n} (search ands)) (search ands)
 
       declined : (is_one_of n causes_of_n && not (is_one_of n silences)) ≡ true → Fits (says m Declined x).said n
@@ -146,7 +143,7 @@ module _ (o : Offer) (m : Message) where
       (λ e. rw e h)
 
 -- any message
-pub act_fits : (bench maker : List ℤ) (c : Setup) (o : Offer) (values : List ℤ) (m : Message)
+pub act_fits : (bench maker : List ℤ) (c : Setup) (o : Option Offer) (values : List ℤ) (m : Message)
     → Fits (act bench maker c o values m).said (because (first (causes_in bench maker c o values m))).code
 unfolding act respond causes_in
 act_fits bench maker c o values m =
@@ -157,32 +154,32 @@ act_fits bench maker c o values m =
 -- ---- a cause by its code and position
 
 -- the one that has them
-cause_from : Why → Cause
+cause_from : Why → Option Cause
 cause_from y =
     cond (eqb y.code 0) None
-    (cond (eqb y.code 1) NoSuchIdentifier
-    (cond (eqb y.code 2) Access
-    (cond (eqb y.code 3) WrongDecimals
-    (cond (eqb y.code 4) MinusZero
-    (cond (eqb y.code 5) OutOfRange
-    (cond (eqb y.code 6) AtLimit
-    (cond (eqb y.code 7) NotForThisCard
-    (cond (eqb y.code 8) NoOffer
-    (cond (eqb y.code 9) NoMessageClosed (NotWellFormed y.position))))))))))
+    (cond (eqb y.code 1) (Some NoSuchIdentifier)
+    (cond (eqb y.code 2) (Some Access)
+    (cond (eqb y.code 3) (Some WrongDecimals)
+    (cond (eqb y.code 4) (Some MinusZero)
+    (cond (eqb y.code 5) (Some OutOfRange)
+    (cond (eqb y.code 6) (Some AtLimit)
+    (cond (eqb y.code 7) (Some NotForThisCard)
+    (cond (eqb y.code 8) (Some NoOffer)
+    (cond (eqb y.code 9) (Some NoMessageClosed) (Some (NotWellFormed y.position)))))))))))
 
-cause_back : (x : Cause) → cause_from (why_of x) ≡ x
+cause_back : (x : Option Cause) → cause_from (why_of x) ≡ x
 unfolding cause_from
 cause_back None = refl
-cause_back NoSuchIdentifier = refl
-cause_back Access = refl
-cause_back WrongDecimals = refl
-cause_back OutOfRange = refl
-cause_back AtLimit = refl
-cause_back NotForThisCard = refl
-cause_back NoOffer = refl
-cause_back NoMessageClosed = refl
-cause_back (NotWellFormed p) = refl
-cause_back MinusZero = refl
+cause_back (Some NoSuchIdentifier) = refl
+cause_back (Some Access) = refl
+cause_back (Some WrongDecimals) = refl
+cause_back (Some OutOfRange) = refl
+cause_back (Some AtLimit) = refl
+cause_back (Some NotForThisCard) = refl
+cause_back (Some NoOffer) = refl
+cause_back (Some NoMessageClosed) = refl
+cause_back (Some (NotWellFormed p)) = refl
+cause_back (Some MinusZero) = refl
 
-pub why_injective : (x y : Cause) → why_of x ≡ why_of y → x ≡ y
+pub why_injective : (x y : Option Cause) → why_of x ≡ why_of y → x ≡ y
 why_injective x y e = sym (cause_back x) ∙ ap cause_from e ∙ cause_back y

@@ -5,7 +5,6 @@ use mathlib.Core.Path.{◌≡◌, refl, sym, ap, ◌∙◌, subst}
 use mathlib.Core.Bool.{true, false, ◌&&◌, ◌||◌}
 use mathlib.Core.List.{List, [], ◌∷◌, map}
 use Prim.Native.Nat.{ℕ}
-use native.Mathlib.Omega.{arith}
 use borrow.Author.Tests.{eqb-true, eq-eqb}
 use lib.Dec.{eqb}
 use lib.IntN.{ℤ, pos}
@@ -20,8 +19,6 @@ use Rattle.message.specs.declared.Body.TheVariants as body
 use Rattle.message.specs.declared.Message.{Message}
 use Rattle.message.specs.Message.{asks_minus_zero}
 use Rattle.sheet.specs.declared.Row.{Row}
-use Rattle.sheet.specs.declared.Entry.{Entry}
-use Rattle.sheet.specs.declared.Entry.TheVariants.{Found, Missing}
 use Rattle.sheet.specs.Values.{entry_in, is_readable, is_writable, is_read_write}
 use Rattle.reply.specs.declared.Mark.{Mark}
 use Rattle.reply.specs.declared.Mark.TheVariants.{Accepted, Offered, Declined}
@@ -29,14 +26,15 @@ use Rattle.reply.specs.declared.Content.{Content}
 use Rattle.reply.specs.declared.Content.TheVariants.{Empty, Number, Four, Five}
 use Rattle.reply.specs.Reply.{scan_identifier, numbers_in}
 use Rattle.act.specs.declared.Setup.{Setup}
-use Rattle.act.specs.declared.Offer.{Offer}
-use Rattle.act.specs.declared.Offer.TheVariants.{Nothing, Held}
-use Rattle.act.specs.declared.Said.TheVariants.{Reply}
 use Rattle.act.specs.declared.Effect.{Effect}
 use Rattle.act.specs.Cause.{row_or_zeros, is_for, takes_zero}
-use Rattle.act.specs.Act.{no_effect, answer_to, no_number, says, accepts, shown_by, offers, named, names_from, value_of, scan_of, ours, act}
+use Rattle.act.specs.Act.{no_effect, answer_to, no_number, says, accepts, shown_by, offers, value_on, named, names_from, value_of, scan_of, ours, act}
 use Rattle.act.proofs.Judged.{act_is}
 use Rattle.act.specs.Inner.{declines, query, moves, up, down, set_to, store, serve, declines_scan, serve_scan, addressed}
+use Rattle.std.proofs.lemmas.Option.{none-some}
+use Rattle.std.specs.Prelude.{None, Option, Some}
+use Rattle.act.specs.Act.{held}
+use Rattle.act.specs.declared.Offer.{Offer}
 
 -- the message m, at the card that it is for, leaves the value z on offer for the identifier i
 pub record Leaves (bench maker : List ℤ) (m : Message) (i : ℕ) (z : ℤ) : Type 0 where
@@ -44,7 +42,7 @@ pub record Leaves (bench maker : List ℤ) (m : Message) (i : ℕ) (z : ℤ) : T
   pub number : Numeral
   pub type_3 : m.body ≡ body.Set number
   pub its : m.identifier ≡ i
-  pub found : entry_in bench maker m.identifier ≡ Found row
+  pub found : entry_in bench maker m.identifier ≡ Some row
   pub writable : is_writable row ≡ true
   pub in-range : in_range row.least number.number row.greatest ≡ true
   pub value : cut number.number row.step ≡ z
@@ -53,66 +51,68 @@ pub record Leaves (bench maker : List ℤ) (m : Message) (i : ℕ) (z : ℤ) : T
 
 module _ (bench maker : List ℤ) (m : Message) where
   abbrev Left : Effect → Type 0
-  Left x = (i : ℕ) (z : ℤ) → x.offer ≡ Held i z → Leaves bench maker m i z
+  Left x = (i : ℕ) (z : ℤ) → x.offer ≡ held i z → Leaves bench maker m i z
 
-  nothing : {i : ℕ} {z : ℤ} → Nothing ≡ Held i z → Leaves bench maker m i z
-  nothing e = absurd (let z : ◌≡◌ {A = ℕ} 0 1 = cc in omega arith)
+  -- the identifier of what is on offer
+  abbrev identifier_on : Option Offer → ℕ
+  identifier_on (Some o) = o.identifier
+  identifier_on None = 0
 
   left_says : (k : Mark) (x : Content) → Left (says m k x)
   unfolding says
-  left_says k x i z e = nothing e
+  left_says k x i z e = absurd (none-some _ e)
 
   left_accepts : (v : ℤ) (d : ℕ) → Left (accepts m v d)
   unfolding accepts
-  left_accepts v d i z e = nothing e
+  left_accepts v d i z e = absurd (none-some _ e)
 
-  left_declines : (e : Entry) (v : ℤ) → Left (declines m e v)
+  left_declines : (e : Option Row) (v : ℤ) → Left (declines m e v)
   unfolding declines
   left_declines e v = left_says Declined (shown_by e v)
 
-  left_query : (e : Entry) (v : ℤ) → Left (query m e v)
+  left_query : (e : Option Row) (v : ℤ) → Left (query m e v)
   unfolding query
-  left_query (Found r) v = choice Left (is_readable r) (λ t. left_says Accepted (Number (with_decimals v r.decimals))) (λ t. left_declines (Found r) v)
-  left_query Missing v = left_declines Missing v
+  left_query (Some r) v = choice Left (is_readable r) (λ t. left_says Accepted (Number (with_decimals v r.decimals))) (λ t. left_declines (Some r) v)
+  left_query None v = left_declines None v
 
   left_moves : (r : Row) (v y : ℤ) → Left (moves m r v y)
   unfolding moves
   left_moves r v y =
-      choice Left (is_read_write r && in_range r.least y r.greatest) (λ t. left_accepts y r.decimals) (λ t. left_declines (Found r) v)
+      choice Left (is_read_write r && in_range r.least y r.greatest) (λ t. left_accepts y r.decimals) (λ t. left_declines (Some r) v)
 
-  left_up : (e : Entry) (v : ℤ) → Left (up m e v)
+  left_up : (e : Option Row) (v : ℤ) → Left (up m e v)
   unfolding up
-  left_up (Found r) v = left_moves r v (raised v r.step)
-  left_up Missing v = left_declines Missing v
+  left_up (Some r) v = left_moves r v (raised v r.step)
+  left_up None v = left_declines None v
 
-  left_down : (e : Entry) (v : ℤ) → Left (down m e v)
+  left_down : (e : Option Row) (v : ℤ) → Left (down m e v)
   unfolding down
-  left_down (Found r) v = left_moves r v (lowered v r.step)
-  left_down Missing v = left_declines Missing v
+  left_down (Some r) v = left_moves r v (lowered v r.step)
+  left_down None v = left_declines None v
 
-  left_set : (c : Setup) (e : Entry) (v : ℤ) (x : Numeral) → entry_in bench maker m.identifier ≡ e → m.body ≡ body.Set x → Left (set_to c m e v x)
+  left_set : (c : Setup) (e : Option Row) (v : ℤ) (x : Numeral) → entry_in bench maker m.identifier ≡ e → m.body ≡ body.Set x → Left (set_to c m e v x)
   unfolding set_to offers
-  left_set c (Found r) v x f b =
+  left_set c (Some r) v x f b =
       choice Left (is_writable r && eqb x.decimals r.decimals && takes_zero c (body.Set x) && in_range r.least x.number r.greatest)
       (λ t i z e. record {
         row = r;
         number = x;
         type_3 = b;
-        its = cc;
+        its = ap identifier_on e;
         found = f;
         writable = search ands;
         in-range = search ands;
-        value = cc;
+        value = ap value_on e;
       })
-      (λ t. left_declines (Found r) v)
-  left_set c Missing v x f b = left_declines Missing v
+      (λ t. left_declines (Some r) v)
+  left_set c None v x f b = left_declines None v
 
-  left_store : (e : Entry) (o : Offer) → Left (store m e o)
+  left_store : (e : Option Row) (o : Option Offer) → Left (store m e o)
   unfolding store
-  left_store e (Held j y) = choice Left (eqb j m.identifier) (λ t. left_accepts y (row_or_zeros e).decimals) (λ t i z q. nothing q)
-  left_store e Nothing = λ i z q. nothing q
+  left_store e (Some o) = choice Left (eqb o.identifier m.identifier) (λ t. left_accepts o.value (row_or_zeros e).decimals) (λ t i z q. absurd (none-some _ q))
+  left_store e None = λ i z q. absurd (none-some _ q)
 
-  left_serve : (c : Setup) (o : Offer) (v : ℤ) (b : Body) → m.body ≡ b → Left (serve c m (entry_in bench maker m.identifier) o v b)
+  left_serve : (c : Setup) (o : Option Offer) (v : ℤ) (b : Body) → m.body ≡ b → Left (serve c m (entry_in bench maker m.identifier) o v b)
   unfolding serve
   left_serve c o v body.Status e = left_says Accepted Empty
   left_serve c o v body.Query e = left_query (entry_in bench maker m.identifier) v
@@ -128,17 +128,17 @@ module _ (bench maker : List ℤ) (m : Message) where
   left_scan c x body.Up = left_says Declined no_number
   left_scan c x body.Down = left_says Declined no_number
   left_scan c x (body.Set y) = left_says Declined no_number
-  left_scan c x body.Store = λ i z q. nothing q
+  left_scan c x body.Store = λ i z q. absurd (none-some _ q)
 
   -- at the card that it is for
-  pub act_leaves : (c : Setup) (o : Offer) (values : List ℤ) → is_for c m ≡ true → (i : ℕ) (z : ℤ) → (act bench maker c o values m).offer ≡ Held i z → Leaves bench maker m i z
+  pub act_leaves : (c : Setup) (o : Option Offer) (values : List ℤ) → is_for c m ≡ true → (i : ℕ) (z : ℤ) → (act bench maker c o values m).offer ≡ held i z → Leaves bench maker m i z
   unfolding addressed
   act_leaves c o values t =
       subst Left (sym (act_is bench maker c o values m))
       (rw t (choice Left (eqb m.identifier scan_identifier) (λ u. left_scan c _ m.body) (λ u. left_serve c o (get_or values m.identifier (pos 0)) m.body refl)))
 
   -- at any other
-  pub act_neighbour : (c : Setup) (o : Offer) (values : List ℤ) → is_for c m ≡ false → act bench maker c o values m ≡ no_effect o
+  pub act_neighbour : (c : Setup) (o : Option Offer) (values : List ℤ) → is_for c m ≡ false → act bench maker c o values m ≡ no_effect o
   unfolding addressed
   act_neighbour c o values t =
       act_is bench maker c o values m ∙ rw t (choice (λ (x : Effect). x ≡ no_effect o) (eqb m.identifier scan_identifier) (λ u. refl) (λ u. refl))
@@ -146,7 +146,7 @@ module _ (bench maker : List ℤ) (m : Message) where
 -- ---- the values that a card names
 
 -- by the row of the identifier
-pub value_is : (e : ℕ → Entry) (v : ℕ → ℤ) (i : ℕ) (r : Row) → e i ≡ Found r → value_of e v i ≡ with_decimals (v i) r.decimals
+pub value_is : (e : ℕ → Option Row) (v : ℕ → ℤ) (i : ℕ) (r : Row) → e i ≡ Some r → value_of e v i ≡ with_decimals (v i) r.decimals
 unfolding value_of
 value_is e v i r f = rw f
 
@@ -201,7 +201,7 @@ module _ (c : Setup) where
       (λ t. ap (ours c) (ours_own m ms t) ∙ ours_own m (ours c ms) t ∙ ap (λ (l : List Message). m ∷ l) (ours_ours ms) ∙ sym (ours_own m ms t))
       (λ t. ap (ours c) (ours_other m ms t) ∙ ours_ours ms ∙ sym (ours_other m ms t))
 
-module _ (bench maker : List ℤ) (c : Setup) (o : Offer) (values : List ℤ) (m : Message) (its : is_for c m ≡ true) where
+module _ (bench maker : List ℤ) (c : Setup) (o : Option Offer) (values : List ℤ) (m : Message) (its : is_for c m ≡ true) where
   abbrev pub answered : Effect
   answered = act bench maker c o values m
 
@@ -211,11 +211,11 @@ module _ (bench maker : List ℤ) (c : Setup) (o : Offer) (values : List ℤ) (m
     unfolding addressed
     scanned b e = act_is bench maker c o values m ∙ rw (its, u, e)
 
-    pub scan_said : m.body ≡ body.Query → eqb c.count 0 ≡ false → answered.said ≡ Reply (answer_to m Accepted (scan_of c (value_of (entry_in bench maker) (λ (i : ℕ). get_or values i (pos 0)))))
+    pub scan_said : m.body ≡ body.Query → eqb c.count 0 ≡ false → answered.said ≡ Some (answer_to m Accepted (scan_of c (value_of (entry_in bench maker) (λ (i : ℕ). get_or values i (pos 0)))))
     unfolding serve_scan says
     scan_said b k = ap (λ (x : Effect). x.said) (scanned body.Query b) ∙ rw k
 
-    pub scan_declined : m.body ≡ body.Up → answered.said ≡ Reply (answer_to m Declined no_number)
+    pub scan_declined : m.body ≡ body.Up → answered.said ≡ Some (answer_to m Declined no_number)
     unfolding serve_scan declines_scan says
     scan_declined b = ap (λ (x : Effect). x.said) (scanned body.Up b)
 
@@ -225,20 +225,20 @@ module _ (bench maker : List ℤ) (c : Setup) (o : Offer) (values : List ℤ) (m
     unfolding addressed
     served b e = act_is bench maker c o values m ∙ rw (its, u, e)
 
-    pub status_said : m.body ≡ body.Status → answered.said ≡ Reply (answer_to m Accepted Empty)
+    pub status_said : m.body ≡ body.Status → answered.said ≡ Some (answer_to m Accepted Empty)
     unfolding serve says
     status_said b = ap (λ (x : Effect). x.said) (served body.Status b)
 
-    module _ (r : Row) (f : entry_in bench maker m.identifier ≡ Found r) where
+    module _ (r : Row) (f : entry_in bench maker m.identifier ≡ Some r) where
       -- its entry is known
-      found : (b : Body) → m.body ≡ b → answered ≡ serve c m (Found r) o (get_or values m.identifier (pos 0)) b
+      found : (b : Body) → m.body ≡ b → answered ≡ serve c m (Some r) o (get_or values m.identifier (pos 0)) b
       found b e = served b e ∙ rw f
 
-      pub query_said : m.body ≡ body.Query → is_readable r ≡ true → answered.said ≡ Reply (answer_to m Accepted (Number (with_decimals (get_or values m.identifier (pos 0)) r.decimals)))
+      pub query_said : m.body ≡ body.Query → is_readable r ≡ true → answered.said ≡ Some (answer_to m Accepted (Number (with_decimals (get_or values m.identifier (pos 0)) r.decimals)))
       unfolding serve query says
       query_said b h = ap (λ (x : Effect). x.said) (found body.Query b) ∙ rw h
 
-      pub up_refused : m.body ≡ body.Up → is_read_write r ≡ false → is_readable r ≡ true → answered.said ≡ Reply (answer_to m Declined (Number (with_decimals (get_or values m.identifier (pos 0)) r.decimals)))
+      pub up_refused : m.body ≡ body.Up → is_read_write r ≡ false → is_readable r ≡ true → answered.said ≡ Some (answer_to m Declined (Number (with_decimals (get_or values m.identifier (pos 0)) r.decimals)))
       unfolding serve up moves declines shown_by says
       up_refused b k h = ap (λ (x : Effect). x.said) (found body.Up b) ∙ rw (k, h)
 
@@ -247,10 +247,10 @@ module _ (bench maker : List ℤ) (c : Setup) (o : Offer) (values : List ℤ) (m
         unfolding serve set_to takes_zero asks_minus_zero
         taken = found (body.Set (numeral (with_decimals n r.decimals))) b ∙ rw (w, eq-eqb r.decimals r.decimals refl, h)
 
-        pub set_said : answered.said ≡ Reply (answer_to m Offered (Number (with_decimals (cut n r.step) r.decimals)))
+        pub set_said : answered.said ≡ Some (answer_to m Offered (Number (with_decimals (cut n r.step) r.decimals)))
         unfolding offers
         set_said = ap (λ (x : Effect). x.said) taken
 
-        pub set_leaves : answered.offer ≡ Held m.identifier (cut n r.step)
+        pub set_leaves : answered.offer ≡ held m.identifier (cut n r.step)
         unfolding offers
         set_leaves = ap (λ (x : Effect). x.offer) taken

@@ -17,8 +17,6 @@ use Rattle.message.specs.declared.Body.{Body}
 use Rattle.message.specs.declared.Body.TheVariants as body
 use Rattle.message.specs.declared.Message.{Message}
 use Rattle.sheet.specs.declared.Row.{Row}
-use Rattle.sheet.specs.declared.Entry.{Entry}
-use Rattle.sheet.specs.declared.Entry.TheVariants.{Found, Missing}
 use Rattle.sheet.specs.Values.{entry_in, is_readable, is_writable, is_read_write}
 use Rattle.reply.specs.declared.Mark.{Mark}
 use Rattle.reply.specs.declared.Mark.TheVariants.{Accepted, Declined}
@@ -28,20 +26,19 @@ use Rattle.reply.specs.Reply.{scan_identifier, spell_content, spell_answer}
 use Rattle.reply.specs.Inner.{spell_front}
 use Rattle.reply.proofs.Spelled.{number_data, four_length, five_length, answer_sum}
 use Rattle.act.specs.declared.Setup.{Setup}
-use Rattle.act.specs.declared.Offer.{Offer}
-use Rattle.act.specs.declared.Offer.TheVariants.{Nothing}
-use Rattle.act.specs.declared.Said.{Said}
-use Rattle.act.specs.declared.Said.TheVariants.{Silence, Reply}
 use Rattle.act.specs.declared.Effect.{Effect}
 use Rattle.act.specs.Cause.{is_for, takes_zero}
 use Rattle.act.specs.Act.{no_effect, answer_to, no_number, says, accepts, shown_by, offers, named, scan_of, act}
 use Rattle.act.specs.Inner.{declines, query, moves, up, down, set_to, serve, declines_scan, serve_scan, addressed}
 use Rattle.act.proofs.Judged.{act_is}
+use Rattle.std.specs.Prelude.{None, Option, Some}
+use Rattle.act.specs.declared.Offer.{Offer}
+use Rattle.reply.specs.declared.Answer.{Answer}
 
 -- how many characters are said
-abbrev pub size_of : Said → ℕ
-size_of Silence = 0
-size_of (Reply a) = length (spell_answer a)
+abbrev pub size_of : Option Answer → ℕ
+size_of None = 0
+size_of (Some a) = length (spell_answer a)
 
 -- two effects that differ at most in the numbers that are said, and in what is stored
 pub record Shaped (x y : Effect) : Type 0 where
@@ -56,7 +53,7 @@ itself x = record { same_offer = refl; same_size = refl }
 module _ (m : Message) where
   -- with so many characters of data, offer gone
   record Sized (n : ℕ) (x : Effect) : Type 0 where
-    pub gone : x.offer ≡ Nothing
+    pub gone : x.offer ≡ None
     pub size : size_of x.said ≡ length (spell_front m.letter m.address m.identifier) + n + 2
 
   sized_alike : {n : ℕ} {x y : Effect} → Sized n x → Sized n y → Shaped x y
@@ -73,43 +70,43 @@ module _ (m : Message) where
   unfolding says accepts
   accepts_sized z d = let s = says_sized Accepted (Number (with_decimals z d)) 5 (number_length (with_decimals z d)) in record { gone = refl; size = s.size }
 
-  declines_sized : (e : Entry) (v : ℤ) → Sized 5 (declines m e v)
+  declines_sized : (e : Option Row) (v : ℤ) → Sized 5 (declines m e v)
   unfolding declines shown_by
-  declines_sized (Found r) v =
-      says_sized Declined (shown_by (Found r) v) 5
+  declines_sized (Some r) v =
+      says_sized Declined (shown_by (Some r) v) 5
       (choice (λ (x : Content). length (spell_content x) ≡ 5) (is_readable r) (λ t. number_length (with_decimals v r.decimals)) (λ t. number_length (with_decimals (pos 0) 0)))
-  declines_sized Missing v = says_sized Declined no_number 5 (number_length (with_decimals (pos 0) 0))
+  declines_sized None v = says_sized Declined no_number 5 (number_length (with_decimals (pos 0) 0))
 
-  query_sized : (e : Entry) (v : ℤ) → Sized 5 (query m e v)
+  query_sized : (e : Option Row) (v : ℤ) → Sized 5 (query m e v)
   unfolding query
-  query_sized (Found r) v =
-      choice (Sized 5) (is_readable r) (λ t. says_sized Accepted (Number (with_decimals v r.decimals)) 5 (number_length (with_decimals v r.decimals))) (λ t. declines_sized (Found r) v)
-  query_sized Missing v = declines_sized Missing v
+  query_sized (Some r) v =
+      choice (Sized 5) (is_readable r) (λ t. says_sized Accepted (Number (with_decimals v r.decimals)) 5 (number_length (with_decimals v r.decimals))) (λ t. declines_sized (Some r) v)
+  query_sized None v = declines_sized None v
 
   moves_sized : (r : Row) (v y : ℤ) → Sized 5 (moves m r v y)
   unfolding moves
-  moves_sized r v y = choice (Sized 5) (is_read_write r && in_range r.least y r.greatest) (λ t. accepts_sized y r.decimals) (λ t. declines_sized (Found r) v)
+  moves_sized r v y = choice (Sized 5) (is_read_write r && in_range r.least y r.greatest) (λ t. accepts_sized y r.decimals) (λ t. declines_sized (Some r) v)
 
-  up_sized : (e : Entry) (v : ℤ) → Sized 5 (up m e v)
+  up_sized : (e : Option Row) (v : ℤ) → Sized 5 (up m e v)
   unfolding up
-  up_sized (Found r) v = moves_sized r v (raised v r.step)
-  up_sized Missing v = declines_sized Missing v
+  up_sized (Some r) v = moves_sized r v (raised v r.step)
+  up_sized None v = declines_sized None v
 
-  down_sized : (e : Entry) (v : ℤ) → Sized 5 (down m e v)
+  down_sized : (e : Option Row) (v : ℤ) → Sized 5 (down m e v)
   unfolding down
-  down_sized (Found r) v = moves_sized r v (lowered v r.step)
-  down_sized Missing v = declines_sized Missing v
+  down_sized (Some r) v = moves_sized r v (lowered v r.step)
+  down_sized None v = declines_sized None v
 
   -- ---- two values
 
-  set_shaped : (c : Setup) (e : Entry) (v y : ℤ) (x : Numeral) → Shaped (set_to c m e v x) (set_to c m e y x)
+  set_shaped : (c : Setup) (e : Option Row) (v y : ℤ) (x : Numeral) → Shaped (set_to c m e v x) (set_to c m e y x)
   unfolding set_to
-  set_shaped c (Found r) v y x =
+  set_shaped c (Some r) v y x =
       by-test (is_writable r && eqb x.decimals r.decimals && takes_zero c (body.Set x) && in_range r.least x.number r.greatest)
-      (λ t. rw t (itself (offers m r x.number))) (λ t. rw t (sized_alike (declines_sized (Found r) v) (declines_sized (Found r) y)))
-  set_shaped c Missing v y x = sized_alike (declines_sized Missing v) (declines_sized Missing y)
+      (λ t. rw t (itself (offers m r x.number))) (λ t. rw t (sized_alike (declines_sized (Some r) v) (declines_sized (Some r) y)))
+  set_shaped c None v y x = sized_alike (declines_sized None v) (declines_sized None y)
 
-  serve_shaped : (c : Setup) (e : Entry) (o : Offer) (v y : ℤ) (b : Body) → Shaped (serve c m e o v b) (serve c m e o y b)
+  serve_shaped : (c : Setup) (e : Option Row) (o : Option Offer) (v y : ℤ) (b : Body) → Shaped (serve c m e o v b) (serve c m e o y b)
   unfolding serve
   serve_shaped c e o v y body.Status = itself _
   serve_shaped c e o v y body.Query = sized_alike (query_sized e v) (query_sized e y)
@@ -134,7 +131,7 @@ module _ (m : Message) where
   scan_shaped c x y (body.Set z) = itself _
   scan_shaped c x y body.Store = itself _
 
-  pub act_shaped : (bench maker : List ℤ) (c : Setup) (o : Offer) (values values' : List ℤ) → Shaped (act bench maker c o values m) (act bench maker c o values' m)
+  pub act_shaped : (bench maker : List ℤ) (c : Setup) (o : Option Offer) (values values' : List ℤ) → Shaped (act bench maker c o values m) (act bench maker c o values' m)
   unfolding addressed
   act_shaped bench maker c o values values' =
       rw (act_is bench maker c o values m, act_is bench maker c o values' m)

@@ -3,7 +3,6 @@
 use mathlib.Core.Path.{◌≡◌, sym, ap, ◌∙◌}
 use mathlib.Core.List.{List}
 use Prim.Native.Nat.{ℕ}
-use native.Mathlib.Omega.{arith}
 use lib.Dec.{eqb}
 use lib.IntN.{ℤ}
 use Rattle.refusal.specs.Refusal.{Outcome, refused, gave}
@@ -19,24 +18,24 @@ use Rattle.reply.specs.declared.Content.{Content}
 use Rattle.reply.specs.declared.Answer.{Answer}
 use Rattle.reply.specs.Reply.{scan_identifier}
 use Rattle.act.specs.declared.Setup.{Setup}
-use Rattle.act.specs.declared.Offer.{Offer}
-use Rattle.act.specs.declared.Offer.TheVariants.{Nothing}
-use Rattle.act.specs.declared.Said.TheVariants.{Silence, Reply}
 use Rattle.act.specs.declared.Effect.{Effect}
 use Rattle.act.specs.declared.causes.Cause.TheVariants.{NotForThisCard, NoOffer}
 use Rattle.act.specs.Cause.{cause_code, is_for}
 use Rattle.act.specs.Act.{no_effect, says, accepts, offers, granted, turned_down, respond, act}
 use Rattle.act.proofs.OnOffer.{for_parts, act_neighbour}
+use Rattle.std.proofs.lemmas.Option.{none-some}
+use Rattle.std.specs.Prelude.{None, Option, Some}
+use Rattle.act.specs.declared.Offer.{Offer}
 
-pub silence : {a : Answer} → Silence ≡ Reply a → ⊥
-silence e = let z : ◌≡◌ {A = ℕ} 0 1 = cc in omega arith
+pub silence : {a : Answer} → None ≡ Some a → ⊥
+silence e = none-some _ e
 
 module _ (m : Message) where
   -- an answer that is said has the message's letter and address
   abbrev Speaks : Effect → Type 0
-  Speaks x = (a : Answer) → x.said ≡ Reply a → (a.letter ≡ m.letter) × (a.address ≡ m.address)
+  Speaks x = (a : Answer) → x.said ≡ Some a → (a.letter ≡ m.letter) × (a.address ≡ m.address)
 
-  quiet : (o : Offer) → Speaks (no_effect o)
+  quiet : (o : Option Offer) → Speaks (no_effect o)
   quiet o a e = absurd (silence e)
 
   speaks_says : (k : Mark) (x : Content) → Speaks (says m k x)
@@ -51,7 +50,7 @@ module _ (m : Message) where
   unfolding offers
   speaks_offers r n a e = (cc, cc)
 
-  speaks_granted : (r : Row) (o : Offer) (v : ℤ) (b : Body) → Speaks (granted m r o v b)
+  speaks_granted : (r : Row) (o : Option Offer) (v : ℤ) (b : Body) → Speaks (granted m r o v b)
   unfolding granted
   speaks_granted r o v body.Status = speaks_says _ _
   speaks_granted r o v body.Query = speaks_says _ _
@@ -60,21 +59,21 @@ module _ (m : Message) where
   speaks_granted r o v (body.Set x) = speaks_offers r x.number
   speaks_granted r o v body.Store = speaks_accepts _ _
 
-  speaks_down : (o : Offer) (x : Content) (n : ℕ) → Speaks (turned_down o m x n)
+  speaks_down : (o : Option Offer) (x : Content) (n : ℕ) → Speaks (turned_down o m x n)
   unfolding turned_down
-  speaks_down o x n = choice Speaks (eqb n (cause_code NotForThisCard)) (λ t. quiet o) (λ t. choice Speaks (eqb n (cause_code NoOffer)) (λ u. quiet Nothing) (λ u. speaks_says Declined x))
+  speaks_down o x n = choice Speaks (eqb n (cause_code NotForThisCard)) (λ t. quiet o) (λ t. choice Speaks (eqb n (cause_code NoOffer)) (λ u. quiet None) (λ u. speaks_says Declined x))
 
-  speaks_decided : (o : Offer) (x : Content) (y : Effect) (r : Outcome (Unit {0})) → Speaks y → Speaks (decided r (turned_down o m x) y)
+  speaks_decided : (o : Option Offer) (x : Content) (y : Effect) (r : Outcome (Unit {0})) → Speaks y → Speaks (decided r (turned_down o m x) y)
   speaks_decided o x y (refused n) p = speaks_down o x n
   speaks_decided o x y (gave u) p = p
 
-  module _ (bench maker : List ℤ) (c : Setup) (o : Offer) (values : List ℤ) where
+  module _ (bench maker : List ℤ) (c : Setup) (o : Option Offer) (values : List ℤ) where
     speaks_act : Speaks (act bench maker c o values m)
     unfolding act respond
     speaks_act = speaks_decided o _ _ (first _) (choice Speaks (eqb m.identifier scan_identifier) (λ t. speaks_says _ _) (λ t. speaks_granted _ o _ m.body))
 
     -- and the card's own: to any other message it says nothing
-    pub act_speaks : (a : Answer) → (act bench maker c o values m).said ≡ Reply a → (a.letter ≡ c.letter) × (a.address ≡ c.address)
+    pub act_speaks : (a : Answer) → (act bench maker c o values m).said ≡ Some a → (a.letter ≡ c.letter) × (a.address ≡ c.address)
     act_speaks a e =
         let p = speaks_act a e in
         by-test (is_for c m)

@@ -19,16 +19,14 @@ use Rattle.message.specs.declared.Message.{Message}
 use Rattle.message.specs.Message.{asks_minus_zero, unsigned_body, unsigned_zero}
 use Rattle.message.proofs.Messages.{by_unsigned, asks_set}
 use Rattle.sheet.specs.declared.Row.{Row}
-use Rattle.sheet.specs.declared.Entry.{Entry}
 use Rattle.sheet.specs.Values.{entry_in}
 use Rattle.reply.specs.Reply.{scan_identifier}
 use Rattle.act.specs.declared.Setup.{Setup}
-use Rattle.act.specs.declared.Offer.{Offer}
-use Rattle.act.specs.declared.Offer.TheVariants.{Nothing}
-use Rattle.act.specs.declared.Store.TheVariants.{Keep}
 use Rattle.act.specs.declared.causes.Standing.{Standing}
 use Rattle.act.specs.Cause.{standing, on_bracket, is_for, takes_zero, causes, because, causes_of_n, up_to_minus_zero, is_one_of}
 use Rattle.act.specs.Act.{says, accepts, offers, granted, named, names_from, scan_of, standing_with, turned_down, respond, act, causes_in, of_revision}
+use Rattle.std.specs.Prelude.{None, Option}
+use Rattle.act.specs.declared.Offer.{Offer}
 
 -- ---- two revisions
 
@@ -37,7 +35,7 @@ module _ (n : ℕ) (c : Setup) (m : Message) (z : asks_minus_zero m.body ≡ fal
   unfolding causes is_for takes_zero
   same_causes s = rw z
 
-  module _ (o : Offer) (bench maker values : List ℤ) where
+  module _ (o : Option Offer) (bench maker values : List ℤ) where
     pub revisions_cause : causes_in bench maker (of_revision n c) o values m ≡ causes_in bench maker c o values m
     unfolding causes_in
     revisions_cause = same_causes _
@@ -94,13 +92,13 @@ unfolding first causes
 other_seven c m s t e = let z : ◌≡◌ {A = ℕ} 7 4 = refused_is (sym (rw t) ∙ e) in omega arith
 
 -- a Type 3 needs no offer
-needs_none : (c : Setup) (o : Offer) (e : ℕ → Entry) (v : ℕ → ℤ) (m : Message) → asks_minus_zero m.body ≡ true → (standing_with c o e v m).offered ≡ true
+needs_none : (c : Setup) (o : Option Offer) (e : ℕ → Option Row) (v : ℕ → ℤ) (m : Message) → asks_minus_zero m.body ≡ true → (standing_with c o e v m).offered ≡ true
 unfolding standing on_bracket
 needs_none c o e v m z =
     let q = (asks_set m.body z).1 in
     by-test (eqb m.identifier scan_identifier) (λ t. rw (t, q)) (λ t. rw (t, q))
 
-module _ (c : Setup) (m : Message) (o : Offer) (bench maker values : List ℤ) where
+module _ (c : Setup) (m : Message) (o : Option Offer) (bench maker values : List ℤ) where
   abbrev tests : List Check
   tests = causes_in bench maker c o values m
 
@@ -108,8 +106,8 @@ module _ (c : Setup) (m : Message) (o : Offer) (bench maker values : List ℤ) w
   pub record Declined : Type 0 where
     pub among : is_one_of (because (first tests)).code up_to_minus_zero ≡ true
     pub of_n : is_one_of (because (first tests)).code causes_of_n ≡ true
-    pub keeps : (act bench maker c o values m).store ≡ Keep
-    pub gone : (act bench maker c o values m).offer ≡ Nothing
+    pub keeps : (act bench maker c o values m).store ≡ None
+    pub gone : (act bench maker c o values m).offer ≡ None
 
   pub second_declines : eqb c.revision 2 ≡ true → is_for c m ≡ true → asks_minus_zero m.body ≡ true → Declined
   unfolding causes_in act respond turned_down says
@@ -142,7 +140,7 @@ takes_any : (c : Setup) (b : Body) → eqb c.revision 2 ≡ false → takes_zero
 unfolding takes_zero
 takes_any c b t = by-test (asks_minus_zero b) (λ z. rw (z, t)) (λ z. rw z)
 
-standing_zero : (there : Bool) (r : Row) (o : Offer) (v : ℤ) (i : ℕ) (b : Body) → standing there r o v i (unsigned_body b) ≡ standing there r o v i b
+standing_zero : (there : Bool) (r : Row) (o : Option Offer) (v : ℤ) (i : ℕ) (b : Body) → standing there r o v i (unsigned_body b) ≡ standing there r o v i b
 unfolding standing
 standing_zero there r o v i = by_unsigned (λ b' b. standing there r o v i b' ≡ standing there r o v i b) (λ b. refl) (λ x. refl)
 
@@ -151,7 +149,7 @@ unfolding on_bracket
 bracket_zero some = by_unsigned (λ b' b. on_bracket some b' ≡ on_bracket some b) (λ b. refl) (λ x. refl)
 
 -- what is granted is the same whatever the message's own body is
-granted_zero : (m : Message) (r : Row) (o : Offer) (v : ℤ) (b : Body) → granted (unsigned_zero m) r o v (unsigned_body b) ≡ granted m r o v b
+granted_zero : (m : Message) (r : Row) (o : Option Offer) (v : ℤ) (b : Body) → granted (unsigned_zero m) r o v (unsigned_body b) ≡ granted m r o v b
 unfolding granted says accepts offers unsigned_body
 granted_zero m r o v body.Status = refl
 granted_zero m r o v body.Query = refl
@@ -165,7 +163,7 @@ module _ (c : Setup) (m : Message) (t : eqb c.revision 2 ≡ false) where
   unfolding causes is_for
   zero_causes s = rw (takes_any c (unsigned_body m.body) t, takes_any c m.body t)
 
-  module _ (o : Offer) (bench maker values : List ℤ) where
+  module _ (o : Option Offer) (bench maker values : List ℤ) where
     pub zeros_cause : causes_in bench maker c o values (unsigned_zero m) ≡ causes_in bench maker c o values m
     unfolding causes_in
     zeros_cause = rw (standing_zero, bracket_zero) (zero_causes _)

@@ -9,15 +9,13 @@ use Rattle.message.specs.declared.Body.TheVariants as body
 use Rattle.message.specs.declared.Message.{Message}
 use Rattle.message.specs.Message.{asks_minus_zero}
 use Rattle.sheet.specs.declared.Row.{Row}
-use Rattle.sheet.specs.declared.Entry.{Entry}
-use Rattle.sheet.specs.declared.Entry.TheVariants.{Found, Missing}
 use Rattle.sheet.specs.Values.{is_readable, is_writable, is_read_write}
 use Rattle.act.specs.declared.Setup.{Setup}
-use Rattle.act.specs.declared.Offer.{Offer}
-use Rattle.act.specs.declared.Offer.TheVariants.{Nothing, Held}
 use Rattle.act.specs.declared.causes.Standing.{Standing}
 use Rattle.act.specs.declared.causes.Cause.{Cause}
-use Rattle.act.specs.declared.causes.Cause.TheVariants.{None, NoSuchIdentifier, Access, WrongDecimals, OutOfRange, AtLimit, NotForThisCard, NoOffer, NoMessageClosed, NotWellFormed, MinusZero}
+use Rattle.act.specs.declared.causes.Cause.TheVariants.{NoSuchIdentifier, Access, WrongDecimals, OutOfRange, AtLimit, NotForThisCard, NoOffer, NoMessageClosed, NotWellFormed, MinusZero}
+use Rattle.std.specs.Prelude.{None, Option, Some}
+use Rattle.act.specs.declared.Offer.{Offer}
 
 -- ---- the causes by their codes
 
@@ -30,21 +28,21 @@ abbrev pub why : ℕ → ℕ → Why
 why n p = record { code = n; position = p }
 
 -- in the order of the tests
-abbrev pub why_of : Cause → Why
+abbrev pub why_of : Option Cause → Why
 why_of None = why 0 0
-why_of NoSuchIdentifier = why 1 0
-why_of Access = why 2 0
-why_of WrongDecimals = why 3 0
-why_of MinusZero = why 4 0
-why_of OutOfRange = why 5 0
-why_of AtLimit = why 6 0
-why_of NotForThisCard = why 7 0
-why_of NoOffer = why 8 0
-why_of NoMessageClosed = why 9 0
-why_of (NotWellFormed p) = why 10 p
+why_of (Some NoSuchIdentifier) = why 1 0
+why_of (Some Access) = why 2 0
+why_of (Some WrongDecimals) = why 3 0
+why_of (Some MinusZero) = why 4 0
+why_of (Some OutOfRange) = why 5 0
+why_of (Some AtLimit) = why 6 0
+why_of (Some NotForThisCard) = why 7 0
+why_of (Some NoOffer) = why 8 0
+why_of (Some NoMessageClosed) = why 9 0
+why_of (Some (NotWellFormed p)) = why 10 p
 
 abbrev pub cause_code : Cause → ℕ
-cause_code x = (why_of x).code
+cause_code x = (why_of (Some x)).code
 
 -- ---- the tests of a message
 
@@ -54,18 +52,18 @@ stands a b c d e f =
     record { offered = a; exists = b; allowed = c; matching = d; within = e; reachable = f }
 
 -- the row of an entry; where there is none, one of zeros. No test of it decides then: that there is none comes before.
-abbrev pub row_or_zeros : Entry → Row
-row_or_zeros (Found r) = r
-row_or_zeros Missing = record { access = 0; decimals = 0; step = pos 0; least = pos 0; greatest = pos 0 }
+abbrev pub row_or_zeros : Option Row → Row
+row_or_zeros (Some r) = r
+row_or_zeros None = record { access = 0; decimals = 0; step = pos 0; least = pos 0; greatest = pos 0 }
 
-abbrev pub is_found : Entry → Bool
-is_found (Found r) = true
-is_found Missing = false
+abbrev pub is_found : Option Row → Bool
+is_found (Some r) = true
+is_found None = false
 
 -- the offer is for the identifier i
-unfoldable pub is_offered : Offer → ℕ → Bool
-is_offered (Held j z) i = eqb j i
-is_offered Nothing i = false
+unfoldable pub is_offered : Option Offer → ℕ → Bool
+is_offered (Some o) i = eqb o.identifier i
+is_offered None i = false
 
 -- one step to the value z, where the row r is there or not: "if the row is read and write and the result is in range"
 abbrev pub moves_to : Bool → Row → ℤ → Standing
@@ -74,7 +72,7 @@ moves_to there r z = stands true there (is_read_write r) true true (in_range r.l
 -- a message with the identifier i, where the row r is there or not, and the value is v. Type 2 `?`: "if the row exists and isn't write only";
 -- Type 3: "if the row exists, isn't read only, the decimals equal the row's, and the number is in range"; Type 4: "if the offer is for this
 -- identifier"
-unfoldable pub standing : Bool → Row → Offer → ℤ → ℕ → Body → Standing
+unfoldable pub standing : Bool → Row → Option Offer → ℤ → ℕ → Body → Standing
 standing there r o v i body.Status = stands true true true true true true
 standing there r o v i body.Query = stands true there (is_readable r) true true true
 standing there r o v i body.Up = moves_to there r (raised v r.step)
@@ -84,7 +82,7 @@ standing there r o v i (body.Set x) =
 standing there r o v i body.Store = stands (is_offered o i) true true true true true
 
 -- by its entry in the sheets
-abbrev pub on_entry : Entry → Offer → ℤ → ℕ → Body → Standing
+abbrev pub on_entry : Option Row → Option Offer → ℤ → ℕ → Body → Standing
 on_entry e o v i b = standing (is_found e) (row_or_zeros e) o v i b
 
 -- a message on `]`, where the card names some identifiers for its scan or none: "For `]` the cause is access, or no such identifier on a card

@@ -1,20 +1,18 @@
 // Why a message isn't accepted: the tests of the single word's calls, in the paper's order.
-ghost use Rattle.std.specs.Prelude.{◌≡◌, true, pos, get_or};
+ghost use Rattle.std.specs.Prelude.{◌≡◌, pos, get_or};
 ghost use Rattle.refusal.specs.Check.{first};
-ghost use Rattle.number.specs.Number.{in_range};
-ghost use Rattle.sheet.specs.Inner.{entry_at};
-ghost use Rattle.act.specs.Cause.{why_of, cause_code, stands, row_or_zeros, is_found, is_offered, moves_to, on_entry, on_bracket, takes_zero, causes, because};
+ghost use Rattle.sheet.specs.Inner.{entries};
+ghost use Rattle.act.specs.Cause.{why_of, cause_code, row_or_zeros, is_offered, moves_to, on_entry, on_bracket, takes_zero, causes, because};
 ghost use Rattle.act.specs.Inner.{scan_causes, row_causes};
 
-use crate::{Offer, Setup};
+use crate::{Offer, Request, Setup};
 use message::{Body, Message};
-use sheet::{Entry, Row};
+use sheet::{Index, Row};
 
 // Why a message is answered with `N` or with silence, or a word with silence: what the paper gives beside the reply. A closed message that
 // isn't well formed has the position of its first character that no well-formed message could have there.
 #[derive(Clone, Copy)]
 pub enum Cause {
-    None,
     NoSuchIdentifier,
     Access,
     WrongDecimals,
@@ -39,245 +37,201 @@ pub struct Standing {
     pub reachable: bool, // a step's result in range
 }
 
-// The code of a cause, 0 for none.
-pub fn cause_code(cause: Cause) -> u8
-    ensures { result ≡ cause_code cause }
-{
-    match cause {
-        Cause::None => 0,
-        Cause::NoSuchIdentifier => 1,
-        Cause::Access => 2,
-        Cause::WrongDecimals => 3,
-        Cause::OutOfRange => 5,
-        Cause::AtLimit => 6,
-        Cause::NotForThisCard => 7,
-        Cause::NoOffer => 8,
-        Cause::NoMessageClosed => 9,
-        Cause::NotWellFormed(_) => 10,
-        Cause::MinusZero => 4,
+// Every test passed.
+const PASSED: Standing = Standing {
+    offered: true,
+    exists: true,
+    allowed: true,
+    matching: true,
+    within: true,
+    reachable: true,
+};
+
+const ROW_OF_ZEROS: Row = Row {
+    access: 0,
+    decimals: 0,
+    step: 0,
+    least: 0,
+    greatest: 0,
+};
+
+impl Cause {
+    // The code of a cause. No `From<Cause> for u8`: a cause is its code and its position, and the C interface takes the two apart.
+    pub fn code(self) -> u8
+        ensures { result ≡ cause_code self }
+    {
+        match self {
+            Cause::NoSuchIdentifier => 1,
+            Cause::Access => 2,
+            Cause::WrongDecimals => 3,
+            Cause::MinusZero => 4,
+            Cause::OutOfRange => 5,
+            Cause::AtLimit => 6,
+            Cause::NotForThisCard => 7,
+            Cause::NoOffer => 8,
+            Cause::NoMessageClosed => 9,
+            Cause::NotWellFormed(_) => 10,
+        }
+    }
+
+    // The position in a message that isn't well formed, 0 for any other cause.
+    pub fn position(self) -> u8
+        ensures { result ≡ (why_of (Some self)).position }
+    {
+        match self {
+            Cause::NotWellFormed(at) => at,
+            _ => 0,
+        }
     }
 }
 
-// The position in a message that isn't well formed, 0 for any other cause.
-pub fn cause_position(cause: Cause) -> u8
+// The code of a cause, 0 for none.
+pub fn cause_code(cause: Option<Cause>) -> u8
+    ensures { result ≡ (why_of cause).code }
+{
+    cause.map_or(0, |cause| cause.code())
+}
+
+// The position in a message that isn't well formed, 0 for any other cause and for none.
+pub fn cause_position(cause: Option<Cause>) -> u8
     ensures { result ≡ (why_of cause).position }
 {
-    match cause {
-        Cause::None => 0,
-        Cause::NoSuchIdentifier => 0,
-        Cause::Access => 0,
-        Cause::WrongDecimals => 0,
-        Cause::OutOfRange => 0,
-        Cause::AtLimit => 0,
-        Cause::NotForThisCard => 0,
-        Cause::NoOffer => 0,
-        Cause::NoMessageClosed => 0,
-        Cause::NotWellFormed(at) => at,
-        Cause::MinusZero => 0,
-    }
+    cause.map_or(0, |cause| cause.position())
 }
 
 // Only a Type 3 can be of minus zero.
+#[tactic(auto, unfolding(crate::specs::Cause::takes_zero, message::specs::Message::asks_minus_zero))]
 fn takes_zero(setup: Setup, body: Body) -> bool
     ensures { result ≡ takes_zero setup body }
 {
     match body {
-        Body::Status => true,
-        Body::Query => true,
-        Body::Up => true,
-        Body::Down => true,
-        Body::Set(x) => crate::takes(setup, x),
-        Body::Store => true,
+        Body::Set(x) => setup.takes(x),
+        Body::Status | Body::Query | Body::Up | Body::Down | Body::Store => true,
     }
 }
 
 // A test is passed where its part is true; the first that isn't gives the cause.
-fn first_cause(setup: Setup, message: Message, standing: Standing) -> Cause
+#[tactic(auto, unfolding(crate::specs::Cause::causes, refusal::specs::Check::first))]
+fn first_cause(setup: Setup, message: Message, standing: Standing) -> Option<Cause>
     ensures { why_of result ≡ because (first (causes setup message standing)) }
 {
-    let ours = crate::is_for(setup, message);
-    let body = message.body;
-    let taken = takes_zero(setup, body);
-    let offered = standing.offered;
-    let exists = standing.exists;
-    let allowed = standing.allowed;
-    let matching = standing.matching;
-    let within = standing.within;
-    let reachable = standing.reachable;
-    if !ours {
-        return Cause::NotForThisCard;
+    if !setup.is_for(message) {
+        return Some(Cause::NotForThisCard);
     }
-    if !offered {
-        return Cause::NoOffer;
+    if !standing.offered {
+        return Some(Cause::NoOffer);
     }
-    if !exists {
-        return Cause::NoSuchIdentifier;
+    if !standing.exists {
+        return Some(Cause::NoSuchIdentifier);
     }
-    if !allowed {
-        return Cause::Access;
+    if !standing.allowed {
+        return Some(Cause::Access);
     }
-    if !matching {
-        return Cause::WrongDecimals;
+    if !standing.matching {
+        return Some(Cause::WrongDecimals);
     }
-    if !taken {
-        return Cause::MinusZero;
+    if !takes_zero(setup, message.body) {
+        return Some(Cause::MinusZero);
     }
-    if !within {
-        return Cause::OutOfRange;
+    if !standing.within {
+        return Some(Cause::OutOfRange);
     }
-    if !reachable {
-        return Cause::AtLimit;
+    if !standing.reachable {
+        return Some(Cause::AtLimit);
     }
-    Cause::None
+    None
 }
 
 // The row of an entry; where there is none, one of zeros.
-fn row_or_zeros(entry: Entry) -> Row
+pub(crate) fn row_or_zeros(entry: Option<Row>) -> Row
     ensures { result ≡ row_or_zeros entry }
 {
-    let Entry::Found(row) = entry else {
-        return Row {
-            access: 0,
-            decimals: 0,
-            step: 0,
-            least: 0,
-            greatest: 0,
-        };
-    };
-    row
-}
-
-fn is_found(entry: Entry) -> bool
-    ensures { result ≡ is_found entry }
-{
-    match entry {
-        Entry::Found(_) => true,
-        Entry::Missing => false,
-    }
+    entry.unwrap_or(ROW_OF_ZEROS)
 }
 
 // Whether the offer is for this identifier.
-fn is_offered(offer: Offer, identifier: u8) -> bool
+#[tactic(auto, unfolding(crate::specs::Cause::is_offered))]
+fn is_offered(offer: Option<Offer>, identifier: u8) -> bool
     ensures { result ≡ is_offered offer identifier }
 {
-    let Offer::Held {
-        identifier: held,
-        value: _,
-    } = offer
-    else {
-        return false;
-    };
-    held == identifier
-}
-
-// Types 2 and 3 ask for a row; what they ask of it is given.
-fn asks(entry: Entry, allowed: bool, matching: bool, within: bool, reachable: bool) -> Standing
-    ensures { result ≡ stands true (is_found entry) allowed matching within reachable }
-{
-    let offered = true;
-    let exists = is_found(entry);
-    Standing {
-        offered,
-        exists,
-        allowed,
-        matching,
-        within,
-        reachable,
-    }
-}
-
-// No number is judged: Types 1 and 4, and any message on `]`.
-fn without_number(offered: bool, exists: bool, allowed: bool) -> Standing
-    ensures { result ≡ stands offered exists allowed true true true }
-{
-    Standing {
-        offered,
-        exists,
-        allowed,
-        matching: true,
-        within: true,
-        reachable: true,
-    }
-}
-
-fn within_row(row: Row, x: i32) -> bool
-    ensures { result ≡ in_range row.least x row.greatest }
-{
-    number::in_range(row.least, x, row.greatest)
+    offer.is_some_and(|offer| offer.identifier == identifier)
 }
 
 // One step to the next value.
-fn moves_to(entry: Entry, row: Row, next: i32) -> Standing
-    ensures { result ≡ moves_to (is_found entry) row next }
+fn moves_to(exists: bool, row: Row, next: i32) -> Standing
+    ensures { result ≡ moves_to exists row next }
 {
-    let allowed = sheet::is_read_write(row);
-    let reachable = within_row(row, next);
-    asks(entry, allowed, true, true, reachable)
-}
-
-// A message on an identifier with this entry and value, by its type.
-fn on_entry(entry: Entry, offer: Offer, value: i32, identifier: u8, body: Body) -> Standing
-    ensures { result ≡ on_entry entry offer value identifier body }
-{
-    let row = row_or_zeros(entry);
-    match body {
-        Body::Status => without_number(true, true, true),
-        Body::Query => asks(entry, sheet::is_readable(row), true, true, true),
-        Body::Up => moves_to(entry, row, number::raised(value, row.step)),
-        Body::Down => moves_to(entry, row, number::lowered(value, row.step)),
-        Body::Set(x) => asks(
-            entry,
-            sheet::is_writable(row),
-            x.decimals == row.decimals,
-            within_row(row, x.number),
-            true,
-        ),
-        Body::Store => without_number(is_offered(offer, identifier), true, true),
+    Standing {
+        exists,
+        allowed: row.is_read_write(),
+        reachable: crate::within_row(row, next),
+        ..PASSED
     }
 }
 
-// A message on `]`, where the card names some identifiers or none.
+impl Request {
+    // How it stands with a card that has this offer, by its type.
+    #[tactic(auto, unfolding(crate::specs::Cause::standing))]
+    fn standing(self, offer: Option<Offer>) -> Standing
+        ensures { result ≡ on_entry self.entry offer self.value self.message.identifier self.message.body }
+    {
+        let exists = self.entry.is_some();
+        let row = row_or_zeros(self.entry);
+        match self.message.body {
+            Body::Status => PASSED,
+            Body::Query => Standing {
+                exists,
+                allowed: row.is_readable(),
+                ..PASSED
+            },
+            Body::Up => moves_to(exists, row, number::raised(self.value, row.step)),
+            Body::Down => moves_to(exists, row, number::lowered(self.value, row.step)),
+            Body::Set(x) => Standing {
+                exists,
+                allowed: row.is_writable(),
+                matching: x.decimals == row.decimals,
+                within: crate::within_row(row, x.number),
+                ..PASSED
+            },
+            Body::Store => Standing {
+                offered: is_offered(offer, self.message.identifier),
+                ..PASSED
+            },
+        }
+    }
+}
+
+// A message on `]`, where the card names some identifiers or none: no number is judged, and only a Type 2 `?` is allowed.
+#[tactic(auto, unfolding(crate::specs::Cause::on_bracket))]
 fn on_bracket(some: bool, body: Body) -> Standing
     ensures { result ≡ on_bracket some body }
 {
-    match body {
-        Body::Status => without_number(true, some, false),
-        Body::Query => without_number(true, some, true),
-        Body::Up => without_number(true, some, false),
-        Body::Down => without_number(true, some, false),
-        Body::Set(_) => without_number(true, some, false),
-        Body::Store => without_number(false, some, false),
+    Standing {
+        offered: !matches!(body, Body::Store),
+        exists: some,
+        allowed: matches!(body, Body::Query),
+        ..PASSED
     }
 }
 
 // Why a message on `]` isn't accepted, at a card with this setup.
-pub fn scan_cause(setup: Setup, message: Message) -> Cause
+pub fn scan_cause(setup: Setup, message: Message) -> Option<Cause>
     ensures { why_of result ≡ because (first (scan_causes setup message)) }
 {
     let some = setup.count != 0;
-    let body = message.body;
-    first_cause(setup, message, on_bracket(some, body))
+    first_cause(setup, message, on_bracket(some, message.body))
 }
 
-// Why a message on any other identifier isn't accepted, at a card with this setup and offer. `places` is an index of the two sheets.
+// Why a message on any other identifier isn't accepted, at a card with this setup and offer.
 pub fn row_cause<'a>(
     setup: Setup,
-    offer: Offer,
-    bench: &'a [i32],
-    maker: &'a [i32],
-    places: &[usize],
+    offer: Option<Offer>,
+    index: &Index<'a>,
     values: &[i32],
     message: Message,
-) -> Cause
-    ensures { why_of result ≡ because (first (row_causes setup offer (entry_at bench.now maker.now places.now) (λ i. get_or values.now i (pos 0)) message)) }
+) -> Option<Cause>
+    ensures { why_of result ≡ because (first (row_causes setup offer (entries index.now) (λ i. get_or values.now i (pos 0)) message)) }
 {
-    let identifier = message.identifier;
-    let entry = sheet::find_at(bench, maker, places, identifier);
-    let value = crate::value_at(values, identifier);
-    let body = message.body;
-    first_cause(
-        setup,
-        message,
-        on_entry(entry, offer, value, identifier, body),
-    )
+    let request = Request::of(index, values, message);
+    first_cause(setup, message, request.standing(offer))
 }

@@ -3,15 +3,16 @@
 
 ghost use Rattle.std.specs.Prelude.{◌≡◌, pos, get_or};
 ghost use Rattle.number.specs.Data.{with_decimals};
-ghost use Rattle.sheet.specs.Inner.{entry_at};
-ghost use Rattle.act.specs.Cause.{row_or_zeros, is_for, takes_zero};
+ghost use Rattle.number.specs.Number.{in_range};
+ghost use Rattle.sheet.specs.Inner.{entries};
+ghost use Rattle.act.specs.Cause.{is_for, takes_zero};
 ghost use Rattle.act.specs.Act.{no_effect, silent, answer_to, says, accepts, shown_by, offers};
-ghost use Rattle.act.specs.Inner.{declines, query, moves, up, down, set_to, store, serve, on_row};
+ghost use Rattle.act.specs.Inner.{declines, query, moved, set_to, store, serve, on_row};
 
 use message::{Body, Message};
 use number::{Decimal, Numeral};
 use reply::{Answer, Content, Mark};
-use sheet::{Entry, Row};
+use sheet::{Index, Row};
 
 pub mod causes;
 pub mod scan;
@@ -20,6 +21,8 @@ pub mod scan;
 pub const MOST_NAMED: usize = 5;
 
 // What a card is set to; the first `count` of `scan` are the identifiers that it names for its scan, and `revision` is 1 or 2 in a sound card.
+// All are numbers of the host's row (crate `row`), which also has some that no card may have: claims on unsound cards speak of them, as
+// `unknown` of `demands/specs/Zeros` of the revision and `sound_scan` of `card/specs/Refusals` of the count. So none is an enum or a slice.
 #[derive(Clone, Copy)]
 pub struct Setup {
     pub letter: u8,
@@ -29,43 +32,54 @@ pub struct Setup {
     pub revision: u8,
 }
 
+impl Setup {
+    // Whether the message is for a card with this setup.
+    #[tactic(auto, unfolding(crate::specs::Cause::is_for))]
+    pub(crate) fn is_for(self, message: Message) -> bool
+        ensures { result ≡ is_for self message }
+    {
+        (message.letter == self.letter) & (message.address == self.address)
+    }
+
+    // Whether the card takes this number, minus zero or not.
+    #[tactic(auto, unfolding(crate::specs::Cause::takes_zero, message::specs::Message::asks_minus_zero))]
+    pub(crate) fn takes(self, x: Numeral) -> bool
+        ensures { result ≡ takes_zero self (Body.Set x) }
+    {
+        !(x.minus_zero & (self.revision == 2))
+    }
+}
+
 // A number that a Type 3 message left, to be stored by a Type 4.
 #[derive(Clone, Copy)]
-pub enum Offer {
-    Nothing,
-    Held { identifier: u8, value: i32 },
+pub struct Offer {
+    pub identifier: u8,
+    pub value: i32,
 }
 
-// What a card says to a word.
+// A value to be stored.
 #[derive(Clone, Copy)]
-pub enum Said {
-    Silence,
-    Reply(Answer),
+pub struct Store {
+    pub place: u8,
+    pub value: i32,
 }
 
-// What is done to the values.
-#[derive(Clone, Copy)]
-pub enum Store {
-    Keep,
-    Put { place: u8, value: i32 },
-}
-
-// What a heard message leads to.
+// What a heard message leads to: what the card says, if anything, what is on offer afterwards, and what is stored.
 #[derive(Clone, Copy)]
 pub struct Effect {
-    pub said: Said,
-    pub offer: Offer,
-    pub store: Store,
+    pub said: Option<Answer>,
+    pub offer: Option<Offer>,
+    pub store: Option<Store>,
 }
 
 // Silence, the offer as it was, nothing stored.
-pub fn no_effect(offer: Offer) -> Effect
+pub fn no_effect(offer: Option<Offer>) -> Effect
     ensures { result ≡ no_effect offer }
 {
     Effect {
-        said: Said::Silence,
+        said: None,
         offer,
-        store: Store::Keep,
+        store: None,
     }
 }
 
@@ -73,7 +87,7 @@ pub fn no_effect(offer: Offer) -> Effect
 pub(crate) fn silent() -> Effect
     ensures { result ≡ silent }
 {
-    no_effect(Offer::Nothing)
+    no_effect(None)
 }
 
 fn answer_to(message: Message, mark: Mark, content: Content) -> Answer
@@ -89,195 +103,98 @@ fn answer_to(message: Message, mark: Mark, content: Content) -> Answer
 }
 
 // A reply, offer gone, nothing stored.
+#[tactic(auto, unfolding(crate::specs::Act::says))]
 pub(crate) fn says(message: Message, mark: Mark, content: Content) -> Effect
     ensures { result ≡ says message mark content }
 {
-    let answer = answer_to(message, mark, content);
-    let said = Said::Reply(answer);
-    let offer = Offer::Nothing;
-    let store = Store::Keep;
-    Effect { said, offer, store }
+    Effect {
+        said: Some(answer_to(message, mark, content)),
+        ..silent()
+    }
 }
 
 // The new value and `A`, offer gone.
+#[tactic(auto, unfolding(crate::specs::Act::accepts, crate::specs::Act::says))]
 fn accepts(message: Message, value: i32, decimals: u8) -> Effect
     ensures { result ≡ accepts message value decimals }
 {
-    let number = value;
-    let content = Content::Number(Decimal { number, decimals });
-    let answer = answer_to(message, Mark::Accepted, content);
-    let said = Said::Reply(answer);
-    let offer = Offer::Nothing;
-    let store = Store::Put {
+    let number = Decimal {
+        number: value,
+        decimals,
+    };
+    let store = Store {
         place: message.identifier,
         value,
     };
-    Effect { said, offer, store }
+    Effect {
+        store: Some(store),
+        ..says(message, Mark::Accepted, Content::Number(number))
+    }
 }
 
 // The value with the decimals of its row.
 fn number_in(row: Row, number: i32) -> Content
     ensures { result ≡ Content.Number (with_decimals number row.decimals) }
 {
-    let decimals = row.decimals;
-    Content::Number(Decimal { number, decimals })
+    Content::Number(Decimal {
+        number,
+        decimals: row.decimals,
+    })
 }
 
 // `00000`.
 pub(crate) fn no_number() -> Content
     ensures { result ≡ Content.Number (with_decimals (pos 0) 0) }
 {
-    let number = 0;
-    let decimals = 0;
-    Content::Number(Decimal { number, decimals })
+    Content::Number(Decimal::default())
 }
 
 // What `N` carries.
-fn shown_by(entry: Entry, value: i32) -> Content
+#[tactic(auto, unfolding(crate::specs::Act::shown_by))]
+fn shown_by(entry: Option<Row>, value: i32) -> Content
     ensures { result ≡ shown_by entry value }
 {
-    let Entry::Found(row) = entry else {
-        return no_number();
-    };
-    if sheet::is_readable(row) {
-        number_in(row, value)
-    } else {
-        no_number()
+    match entry {
+        Some(row) if row.is_readable() => number_in(row, value),
+        _ => no_number(),
     }
 }
 
-fn declines(message: Message, entry: Entry, value: i32) -> Effect
-    ensures { result ≡ declines message entry value }
+// Whether a number is in the range of a row.
+pub(crate) fn within_row(row: Row, x: i32) -> bool
+    ensures { result ≡ in_range row.least x row.greatest }
 {
-    says(message, Mark::Declined, shown_by(entry, value))
-}
-
-// Type 2 `?`.
-fn query(message: Message, entry: Entry, value: i32) -> Effect
-    ensures { result ≡ query message entry value }
-{
-    let Entry::Found(row) = entry else {
-        return declines(message, entry, value);
-    };
-    if sheet::is_readable(row) {
-        says(message, Mark::Accepted, number_in(row, value))
-    } else {
-        declines(message, entry, value)
-    }
-}
-
-// One step to the next value, where the row allows it.
-fn moves(message: Message, row: Row, value: i32, next: i32) -> Effect
-    ensures { result ≡ moves message row value next }
-{
-    if sheet::is_read_write(row) & number::in_range(row.least, next, row.greatest) {
-        accepts(message, next, row.decimals)
-    } else {
-        declines(message, Entry::Found(row), value)
-    }
-}
-
-// Type 2 `+`.
-fn up(message: Message, entry: Entry, value: i32) -> Effect
-    ensures { result ≡ up message entry value }
-{
-    let Entry::Found(row) = entry else {
-        return declines(message, entry, value);
-    };
-    moves(message, row, value, number::raised(value, row.step))
-}
-
-// Type 2 `-`.
-fn down(message: Message, entry: Entry, value: i32) -> Effect
-    ensures { result ≡ down message entry value }
-{
-    let Entry::Found(row) = entry else {
-        return declines(message, entry, value);
-    };
-    moves(message, row, value, number::lowered(value, row.step))
+    number::in_range(row.least, x, row.greatest)
 }
 
 // The number cut down, offered.
+#[tactic(auto, unfolding(crate::specs::Act::offers, crate::specs::Act::says))]
 fn offers(message: Message, row: Row, number: i32) -> Effect
     ensures { result ≡ offers message row number }
 {
     let value = number::cut(number, row.step);
-    let answer = answer_to(message, Mark::Offered, number_in(row, value));
-    let said = Said::Reply(answer);
-    let offer = Offer::Held {
+    let offer = Offer {
         identifier: message.identifier,
         value,
     };
-    let store = Store::Keep;
-    Effect { said, offer, store }
-}
-
-// Whether the card takes this number, minus zero or not.
-pub(crate) fn takes(setup: Setup, x: Numeral) -> bool
-    ensures { result ≡ takes_zero setup (Body.Set x) }
-{
-    !(x.minus_zero & (setup.revision == 2))
-}
-
-// Type 3: the range is tested before the cut.
-fn set_to(setup: Setup, message: Message, entry: Entry, value: i32, x: Numeral) -> Effect
-    ensures { result ≡ set_to setup message entry value x }
-{
-    let Entry::Found(row) = entry else {
-        return declines(message, entry, value);
-    };
-    if sheet::is_writable(row)
-        & (x.decimals == row.decimals)
-        & takes(setup, x)
-        & number::in_range(row.least, x.number, row.greatest)
-    {
-        offers(message, row, x.number)
-    } else {
-        declines(message, entry, value)
+    Effect {
+        offer: Some(offer),
+        ..says(message, Mark::Offered, number_in(row, value))
     }
 }
 
-pub(crate) fn decimals_of(entry: Entry) -> u8
-    ensures { result ≡ (row_or_zeros entry).decimals }
-{
-    let Entry::Found(row) = entry else {
-        return 0;
-    };
-    row.decimals
-}
-
-// Type 4.
-fn store_offer(message: Message, entry: Entry, offer: Offer) -> Effect
+// Type 4. Document 01 asks for this `let .. else`, whose other branch is silence with the offer gone.
+#[tactic(auto, unfolding(crate::specs::Inner::store))]
+fn store_offer(message: Message, entry: Option<Row>, offer: Option<Offer>) -> Effect
     ensures { result ≡ store message entry offer }
 {
-    let Offer::Held { identifier, value } = offer else {
+    let Some(Offer { identifier, value }) = offer else {
         return silent();
     };
     if identifier == message.identifier {
-        accepts(message, value, decimals_of(entry))
+        accepts(message, value, causes::row_or_zeros(entry).decimals)
     } else {
         silent()
-    }
-}
-
-// A message for this card, by its type.
-fn serve(
-    setup: Setup,
-    message: Message,
-    entry: Entry,
-    offer: Offer,
-    value: i32,
-    body: Body,
-) -> Effect
-    ensures { result ≡ serve setup message entry offer value body }
-{
-    match body {
-        Body::Status => says(message, Mark::Accepted, Content::Empty),
-        Body::Query => query(message, entry, value),
-        Body::Up => up(message, entry, value),
-        Body::Down => down(message, entry, value),
-        Body::Set(x) => set_to(setup, message, entry, value, x),
-        Body::Store => store_offer(message, entry, offer),
     }
 }
 
@@ -285,35 +202,112 @@ fn serve(
 pub(crate) fn value_at(values: &[i32], place: u8) -> i32
     ensures { result ≡ get_or values.now place (pos 0) }
 {
-    let at = place as usize;
-    if at < values.len() { values[at] } else { 0 }
+    values.get(usize::from(place)).copied().unwrap_or(0)
 }
 
-// Whether the message is for a card with this setup.
-pub(crate) fn is_for(setup: Setup, message: Message) -> bool
-    ensures { result ≡ is_for setup message }
-{
-    (message.letter == setup.letter) & (message.address == setup.address)
+// A message with what is kept for its identifier: the entry in the sheets, and the value.
+#[derive(Clone, Copy)]
+pub(crate) struct Request {
+    pub(crate) message: Message,
+    pub(crate) entry: Option<Row>,
+    pub(crate) value: i32,
 }
 
-// What a message on any other identifier leads to, at a card with this setup and offer.
+impl Request {
+    // A message with what the index and the values give.
+    pub(crate) fn of<'a>(index: &Index<'a>, values: &[i32], message: Message) -> Request
+        ensures { result ≡ record { message = message; entry = entries index.now message.identifier; value = get_or values.now message.identifier (pos 0) } }
+    {
+        Request {
+            message,
+            entry: index.find(message.identifier),
+            value: value_at(values, message.identifier),
+        }
+    }
+
+    #[tactic(auto, unfolding(crate::specs::Inner::declines))]
+    fn declines(self) -> Effect
+        ensures { result ≡ declines self.message self.entry self.value }
+    {
+        says(
+            self.message,
+            Mark::Declined,
+            shown_by(self.entry, self.value),
+        )
+    }
+
+    // Type 2 `?`.
+    #[tactic(auto, unfolding(crate::specs::Inner::query))]
+    fn query(self) -> Effect
+        ensures { result ≡ query self.message self.entry self.value }
+    {
+        match self.entry {
+            Some(row) if row.is_readable() => {
+                says(self.message, Mark::Accepted, number_in(row, self.value))
+            }
+            _ => self.declines(),
+        }
+    }
+
+    // Type 2 `+` or `-`: one step to the next value, where there is a row and it allows it.
+    #[tactic(auto, unfolding(crate::specs::Inner::moved, crate::specs::Inner::moves))]
+    fn moves(self, next: i32) -> Effect
+        ensures { result ≡ moved self.message self.entry self.value next }
+    {
+        match self.entry {
+            Some(row) if row.is_read_write() & within_row(row, next) => {
+                accepts(self.message, next, row.decimals)
+            }
+            _ => self.declines(),
+        }
+    }
+
+    // Type 3: the range is tested before the cut.
+    #[tactic(auto, unfolding(crate::specs::Inner::set_to))]
+    fn set_to(self, setup: Setup, x: Numeral) -> Effect
+        ensures { result ≡ set_to setup self.message self.entry self.value x }
+    {
+        match self.entry {
+            Some(row)
+                if row.is_writable()
+                    & (x.decimals == row.decimals)
+                    & setup.takes(x)
+                    & within_row(row, x.number) => offers(self.message, row, x.number),
+            _ => self.declines(),
+        }
+    }
+
+    // By its type, at the card that it is for.
+    #[tactic(auto, unfolding(crate::specs::Inner::serve, crate::specs::Inner::up, crate::specs::Inner::down, crate::specs::Inner::moved))]
+    fn serve(self, setup: Setup, offer: Option<Offer>) -> Effect
+        ensures { result ≡ serve setup self.message self.entry offer self.value self.message.body }
+    {
+        let step = causes::row_or_zeros(self.entry).step;
+        match self.message.body {
+            Body::Status => says(self.message, Mark::Accepted, Content::Empty),
+            Body::Query => self.query(),
+            Body::Up => self.moves(number::raised(self.value, step)),
+            Body::Down => self.moves(number::lowered(self.value, step)),
+            Body::Set(x) => self.set_to(setup, x),
+            Body::Store => store_offer(self.message, self.entry, offer),
+        }
+    }
+}
+
+// What a message on any other identifier leads to, at a card with this setup and offer. The offer and the values change from one message to
+// the next, and the setup and the index don't: a struct of the four would be made anew for each message, from the same four.
+#[tactic(auto, using(crate::proofs::Judged::row_is), unfolding(crate::specs::Inner::addressed))]
 pub fn on_row<'a>(
     setup: Setup,
-    offer: Offer,
-    bench: &'a [i32],
-    maker: &'a [i32],
-    places: &[usize],
+    offer: Option<Offer>,
+    index: &Index<'a>,
     values: &[i32],
     message: Message,
 ) -> Effect
-    ensures { result ≡ on_row setup offer (entry_at bench.now maker.now places.now) (λ i. get_or values.now i (pos 0)) message }
+    ensures { result ≡ on_row setup offer (entries index.now) (λ i. get_or values.now i (pos 0)) message }
 {
-    if !is_for(setup, message) {
+    if !setup.is_for(message) {
         return no_effect(offer);
     }
-    let identifier = message.identifier;
-    let entry = sheet::find_at(bench, maker, places, identifier);
-    let value = value_at(values, identifier);
-    let body = message.body;
-    serve(setup, message, entry, offer, value, body)
+    Request::of(index, values, message).serve(setup, offer)
 }

@@ -1,6 +1,6 @@
--- The loops that find two cards alike, and the table that finds a card by its letter and address. Assumes nothing.
+-- What finds two cards alike, and the table that finds a card by its letter and address. Assumes nothing.
 use mathlib.Core.Path.{◌≡◌, refl, sym, ap, ap₂, ◌∙◌}
-use mathlib.Core.Bool.{Bool, true, false, not, ◌||◌, false≢true}
+use mathlib.Core.Bool.{Bool, true, false, not, ◌||◌, ◌&&◌, false≢true}
 use mathlib.Core.List.{List, [], ◌∷◌}
 use Prim.Native.Nat.{ℕ, zero, suc, ◌+◌, ◌<◌, ◌≤◌}
 use Prim.Native.Char.{code}
@@ -12,64 +12,49 @@ use lib.ListN.{length, get_or, set, take, drop, replicate, drop_of_length-le, le
 use lib.Seq.{drop-cons, get_or-take, length-take-le, get_or-set_same, get_or-set_other}
 use Rattle.refusal.specs.Lists.{every}
 use Rattle.refusal.proofs.Logic.{ands, by-test}
-use Rattle.refusal.proofs.Lists.{every_at}
+use Rattle.refusal.proofs.Lists.{every_at, same_pointwise}
+use Rattle.std.specs.Cmp.Lexicographic.{pointwise}
+use Rattle.hearing.specs.declared.Pending.{Pending}
 use Rattle.message.specs.declared.Message.{Message}
-use Rattle.message.specs.declared.Parsed.{Parsed}
-use Rattle.message.specs.declared.Parsed.TheVariants.{Heard, Unheard}
 use Rattle.message.specs.Message.{is_letter, is_address}
 use Rattle.act.specs.declared.Setup.{Setup}
 use Rattle.act.specs.Cause.{is_for}
 use Rattle.act.proofs.OnOffer.{for_parts}
 use Rattle.card.specs.Refusals.{sound_setup}
-use Rattle.bus.specs.Refusals.{alike, apart}
+use Rattle.bus.specs.Refusals.{alike, apart, same_open}
 use Rattle.bus.specs.Inner.{slot_of, slot_in, Finds, meant_by}
 use Rattle.bus.proofs.Sharing.{parts_alike, apart_at}
+use Rattle.std.specs.Prelude.{None, Option, Some}
 
--- ---- a loop over the first so many of a list
+-- ---- two open messages, as the derived comparison has them
 
-module _ {A : Type 0} (xs : List A) (n : ℕ) (l : n ≤ length xs) where
-  -- the first n from the j-th on
-  pub next_of : (d : A) (j : ℕ) → j < n → drop j (take n xs) ≡ get_or xs j d ∷ drop (j + 1) (take n xs)
-  next_of d j h =
-      rw (add-one j)
-      (drop-cons (take n xs) j d (omega (arith, length-take-le n xs l)) ∙ ap (λ (x : A). x ∷ drop (suc j) (take n xs)) (get_or-take n xs j d h))
+pub open_compared : (p q : Pending) → (pointwise eqb p.chars q.chars && eqb p.len q.len) ≡ same_open p q
+unfolding same_open
+open_compared p q = turn (pointwise eqb p.chars q.chars) (eqb p.len q.len) ∙ ap (λ (b : Bool). eqb p.len q.len && b) (sym (same_pointwise eqb p.chars q.chars))
+  where
+    turn : (a b : Bool) → (a && b) ≡ (b && a)
+    turn true true = refl
+    turn true false = refl
+    turn false true = refl
+    turn false false = refl
 
-  pub none_behind : (j : ℕ) → n ≤ j → drop j (take n xs) ≡ []
-  none_behind j h = let b : length (take n xs) ≤ j = omega (arith, length-take-le n xs l) in drop_of_length-le (take n xs) b
+-- ---- one card against those behind it
 
-module _ (ss : List Setup) (n : ℕ) (l : n ≤ length ss) where
-  abbrev tests : Setup → Setup → Bool
-  tests s t = not (alike s t)
+abbrev tests : Setup → Setup → Bool
+tests s t = not (alike s t)
 
-  -- ---- one card against those behind it
+pub apart_fails : (s : Setup) (ss : List Setup) → every (tests s) ss ≡ false → apart (s ∷ ss) ≡ false
+unfolding apart
+apart_fails s ss e = rw e
 
-  module _ (s : Setup) (from : ℕ) {j : ℕ} (t : every (tests s) (drop from (take n ss)) ≡ every (tests s) (drop j (take n ss))) where
-    pub differs_more : (d : Setup) → j < n → alike s (get_or ss j d) ≡ false → every (tests s) (drop from (take n ss)) ≡ every (tests s) (drop (j + 1) (take n ss))
-    unfolding every
-    differs_more d h e = t ∙ rw (next_of ss n l d j h, e)
+pub apart_more : (s : Setup) (ss : List Setup) → every (tests s) ss ≡ true → apart (s ∷ ss) ≡ apart ss
+unfolding apart
+apart_more s ss e = rw e
 
-    pub differs_fails : (d : Setup) → j < n → alike s (get_or ss j d) ≡ true → false ≡ every (tests s) (drop from (take n ss))
-    unfolding every
-    differs_fails d h e = sym (t ∙ rw (next_of ss n l d j h, e))
-
-    pub differs_ends : n ≤ j → true ≡ every (tests s) (drop from (take n ss))
-    unfolding every
-    differs_ends h = sym (t ∙ rw (none_behind ss n l j h))
-
-  -- ---- all of them
-
-  module _ {i : ℕ} (t : apart (take n ss) ≡ apart (drop i (take n ss))) where
-    pub apart_more : (d : Setup) → i < n → every (tests (get_or ss i d)) (drop (i + 1) (take n ss)) ≡ true → apart (take n ss) ≡ apart (drop (i + 1) (take n ss))
-    unfolding apart
-    apart_more d h e = t ∙ ap apart (next_of ss n l d i h) ∙ rw e
-
-    pub apart_fails : (d : Setup) → i < n → every (tests (get_or ss i d)) (drop (i + 1) (take n ss)) ≡ false → false ≡ apart (take n ss)
-    unfolding apart
-    apart_fails d h e = sym (t ∙ ap apart (next_of ss n l d i h) ∙ rw e)
-
-    pub apart_ends : n ≤ i → true ≡ apart (take n ss)
-    unfolding apart
-    apart_ends h = sym (t ∙ ap apart (none_behind ss n l i h))
+pub apart_none : (ss : List Setup) → length ss ≡ 0 → apart ss ≡ true
+unfolding apart
+apart_none [] e = refl
+apart_none (s ∷ ss) e = absurd (omega arith)
 
 -- ---- the table
 
@@ -156,7 +141,7 @@ module _ (ss : List Setup) (sound : every sound_setup ss ≡ true) (are : apart 
     }
 
 -- no other card is meant than the one found
-pub found : (ss : List Setup) (table : List ℕ) → Finds ss table → (x : Parsed) (m : Message) → x ≡ Heard m → (j : ℕ) (d : Setup) → j < length ss → (j ≡ meant_by table x → ⊥) → is_for (get_or ss j d) m ≡ false
+pub found : (ss : List Setup) (table : List ℕ) → Finds ss table → (x : Option Message) (m : Message) → x ≡ Some m → (j : ℕ) (d : Setup) → j < length ss → (j ≡ meant_by table x → ⊥) → is_for (get_or ss j d) m ≡ false
 unfolding meant_by
 found ss table f x m e j d l n =
     by-test (is_for (get_or ss j d) m)
@@ -165,7 +150,7 @@ found ss table f x m e j d l n =
     absurd (n (sym (f.finds j d l) ∙ ap₂ (λ (a b : ℕ). get_or table (slot_of a b) 0) (sym p.0) (sym p.1) ∙ ap (meant_by table) (sym e))))
     (λ t. t)
 
-pub meant_inside : (ss : List Setup) (table : List ℕ) → Finds ss table → (x : Parsed) → meant_by table x < length ss
+pub meant_inside : (ss : List Setup) (table : List ℕ) → Finds ss table → (x : Option Message) → meant_by table x < length ss
 unfolding meant_by
-meant_inside ss table f (Heard m) = f.inside (slot_of m.letter m.address)
-meant_inside ss table f Unheard = let h = f.inside 0 in omega arith
+meant_inside ss table f (Some m) = f.inside (slot_of m.letter m.address)
+meant_inside ss table f None = let h = f.inside 0 in omega arith

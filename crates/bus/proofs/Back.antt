@@ -1,5 +1,6 @@
 -- The rows after a run are the cards after it: each is stored back and read again, the rows are rows again, and their other numbers stay.
 -- Assumes nothing.
+use Rattle.card.specs.declared.Took.{Took}
 use mathlib.Core.Path.{◌≡◌, refl, sym, ap, ap₂, ◌∙◌}
 use mathlib.Core.Bool.{true}
 use mathlib.Core.List.{List, [], ◌∷◌, map, tail-eq_of_cons-eq}
@@ -17,8 +18,6 @@ use Rattle.refusal.proofs.Checks.{refused_gave, by_first}
 use Rattle.hearing.proofs.Close.{hear_long}
 use Rattle.sheet.proofs.Values.{entry_below}
 use Rattle.act.specs.declared.Setup.{Setup}
-use Rattle.act.specs.declared.Offer.{Offer}
-use Rattle.act.specs.declared.Offer.TheVariants.{Nothing, Held}
 use Rattle.row.specs.Row.{is_row, card_of, stored_in}
 use Rattle.row.proofs.Laws.{stored_length}
 use Rattle.row.proofs.Back.{Lent, sound_lent, identifier_of, card_back, card_setup, card_ten, row_length, stored_front, stored_behind, stored_row}
@@ -26,7 +25,6 @@ use Rattle.card.specs.declared.Card.{Card}
 use Rattle.card.specs.Run.{playing}
 use Rattle.card.specs.Turn.{Instrument}
 use Rattle.card.specs.Refusals.{sound_card, sound_offer}
-use Rattle.card.specs.Calls.{Took}
 use Rattle.card.proofs.Turns.{turn_card}
 use Rattle.card.proofs.Sounds.{card_parts, offer_parts}
 use Rattle.bus.specs.Bus.{parts, instruments, cards_in, hears_all}
@@ -35,6 +33,8 @@ use Rattle.bus.proofs.Instruments.{instrument_cards, instrument_count, instrumen
 use Rattle.bus.proofs.Sharing.{rows_kept, rows_ended, rows_is, setups_in, setups_stay, hears_count, hears_at, play_keeps}
 use Rattle.bus.proofs.Checks.{cards_number, checked}
 use Rattle.bus.proofs.Standing.{back_length}
+use Rattle.std.specs.Prelude.{None, Option, Some}
+use Rattle.act.specs.declared.Offer.{Offer}
 
 -- ---- the call
 
@@ -62,9 +62,9 @@ pub record Storable (c : Card) : Type 0 where
 abbrev pub AllStorable : List Card → Type 0
 AllStorable cs = (k : ℕ) (d : Card) → k < length cs → Storable (get_or cs k d)
 
-offer_small : (bench maker : List ℤ) (o : Offer) → sound_offer bench maker o ≡ true → identifier_of o < 256
-offer_small bench maker Nothing e = omega arith
-offer_small bench maker (Held i z) e = let a = (offer_parts bench maker i z e).allowed in omega (arith, entry_below bench maker i a.row a.found)
+offer_small : (bench maker : List ℤ) (o : Option Offer) → sound_offer bench maker o ≡ true → identifier_of o < 256
+offer_small bench maker None e = omega arith
+offer_small bench maker (Some o) e = let a = (offer_parts bench maker o.identifier o.value e).allowed in omega (arith, entry_below bench maker o.identifier a.row a.found)
 
 -- as every sound card with ten places
 pub sound_storable : (bench maker : List ℤ) (c : Card) → sound_card c ≡ true → sound_offer bench maker c.offer ≡ true → length c.pending.chars ≡ 10 → Storable c

@@ -201,3 +201,82 @@ module _ (numbers bench maker values : List ℤ) (ws : List ℕ) where
       (λ r. absurd (refused_gave (sym (sheets_unsound p q r) ∙ e))))
       (λ q. absurd (refused_gave (sym (bus_unsound p q) ∙ e))))
       (λ p. absurd (refused_gave (sym (rows_unsound p) ∙ e)))
+
+-- ---- the tests as the code has them
+
+module _ (numbers bench maker values : List ℤ) (ws : List ℕ) where
+  abbrev tested : Bool
+  tested = eqb (length numbers % 23) 0 && every sound_card_row (rows_in numbers)
+
+  abbrev judged : Bool
+  judged = every (card_row_fits bench maker) (rows_in numbers)
+
+  abbrev parted : Bool
+  parted = sound_parts bench maker (length (rows_in numbers)) values
+
+  abbrev answer : Outcome (Unit {0})
+  answer = first (rows_checks numbers bench maker values ws)
+
+  pub rows_fail : tested ≡ false → refused 1 ≡ answer
+  rows_fail e = sym (rows_unsound numbers bench maker values ws (sym (rows_sound numbers) ∙ e))
+
+  module _ (p : tested ≡ true) where
+    rows_pass : (is_rows numbers && every sound_card (cards_of numbers)) ≡ true
+    rows_pass = sym (rows_sound numbers) ∙ p
+
+    pub bus_fails : sound_bus (cards_of numbers) ≡ false → refused 8 ≡ answer
+    bus_fails e = sym (bus_unsound numbers bench maker values ws rows_pass e)
+
+    module _ (q : sound_bus (cards_of numbers) ≡ true) where
+      pub sheets_fail : (sound_sheet bench && sound_sheet maker) ≡ false → refused 2 ≡ answer
+      sheets_fail e = sym (sheets_unsound numbers bench maker values ws rows_pass q e)
+
+      module _ (r : (sound_sheet bench && sound_sheet maker) ≡ true) where
+        pub card_fails : judged ≡ false → refused 1 ≡ answer
+        card_fails e = sym (card_unfit numbers bench maker values ws rows_pass q r (sym (all_fit bench maker numbers) ∙ e))
+
+        module _ (f : judged ≡ true) where
+          fit : every (fits_sheets bench maker) (cards_of numbers) ≡ true
+          fit = sym (all_fit bench maker numbers) ∙ f
+
+          pub values_fail : parted ≡ false → refused 3 ≡ answer
+          values_fail e = sym (values_unsound numbers bench maker values ws rows_pass q r fit (ap (λ (n : ℕ). sound_parts bench maker n values) (sym (rows_count numbers)) ∙ e))
+
+          module _ (v : parted ≡ true) where
+            whole_parts : sound_parts bench maker (length numbers / 23) values ≡ true
+            whole_parts = ap (λ (n : ℕ). sound_parts bench maker n values) (sym (rows_count numbers)) ∙ v
+
+            pub word_fails : valid_words ws ≡ false → refused 4 ≡ answer
+            word_fails e = sym (word_above numbers bench maker values ws rows_pass q r fit whole_parts e)
+
+            pub none_fails : valid_words ws ≡ true → gave tt ≡ answer
+            none_fails e = sym (all_pass numbers bench maker values ws rows_pass q r fit whole_parts e)
+
+-- the rows of a pair as the code judges them
+module _ (numbers : List ℤ) (rows : List (List ℤ)) (is : rows ≡ rows_in numbers) where
+  number : length rows ≡ length numbers / 23
+  number = ap length is ∙ rows_count numbers
+
+  pub none_shares : length rows ≡ 0 → sound_bus (cards_of numbers) ≡ true
+  none_shares e = no_rows numbers (sym number ∙ e)
+
+  pub many_fail : 32 < length rows → sound_bus (cards_of numbers) ≡ false
+  many_fail h = too_many numbers (omega (arith, number))
+
+  pub first_row : 1 ≤ length rows → (d : List ℤ) → get_or rows 0 d ≡ take 23 numbers
+  first_row h d =
+      let e = parts_some 23 (length numbers / 23) numbers (omega (arith, number)) in
+      ap (λ (l : List (List ℤ)). get_or l 0 d) (is ∙ e)
+
+  pub rows_share : 1 ≤ length rows → length rows ≤ 32 → (p : Pending) → p ≡ pending_in (take 23 numbers)
+      → (apart (map setup_in rows) && every (λ (row : List ℤ). same_open p (pending_in row)) rows) ≡ sound_bus (cards_of numbers)
+  rows_share h k p e =
+      ap₂ (λ (l : List (List ℤ)) (q : Pending). apart (map setup_in l) && every (λ (row : List ℤ). same_open q (pending_in row)) l) is e
+      ∙ by_rows numbers (omega (arith, number)) (omega (arith, number))
+
+  pub apart_hold : 1 ≤ length rows → length rows ≤ 32 → (p : Pending) → p ≡ pending_in (take 23 numbers) → apart (map setup_in rows) ≡ true
+      → every (λ (row : List ℤ). same_open p (pending_in row)) rows ≡ sound_bus (cards_of numbers)
+  apart_hold h k p e t = rw t at (rows_share h k p e)
+
+  pub alike_fail : 1 ≤ length rows → length rows ≤ 32 → apart (map setup_in rows) ≡ false → false ≡ sound_bus (cards_of numbers)
+  alike_fail h k t = rw t at (rows_share h k (pending_in (take 23 numbers)) refl)

@@ -9,8 +9,6 @@ use lib.IntN.{ℤ}
 use lib.ListN.{length, get_or, set}
 use lib.Seq.{set-get_or}
 use Rattle.message.specs.declared.Message.{Message}
-use Rattle.message.specs.declared.Parsed.{Parsed}
-use Rattle.message.specs.declared.Parsed.TheVariants.{Heard, Unheard}
 use Rattle.hearing.specs.declared.Pending.{Pending}
 use Rattle.hearing.specs.Hearing.{hear}
 use Rattle.act.specs.declared.Effect.{Effect}
@@ -21,6 +19,7 @@ use Rattle.card.specs.Turn.{effect_of, stored, Instrument, hears}
 use Rattle.card.proofs.Turns.{effect_heard, effect_unheard}
 use Rattle.card.proofs.Plays.{obey_one, Obeys, holding, carried_out, does, hears_obeys}
 use Rattle.bus.specs.Bus.{hears_all}
+use Rattle.std.specs.Prelude.{None, Option, Some}
 
 -- one instrument more
 abbrev pub beside : Reaction Instrument → Reaction (List Instrument) → Reaction (List Instrument)
@@ -44,19 +43,19 @@ module _ (bench maker : List ℤ) where
   does_all [] m = record { state = []; reply = [] }
   does_all (i ∷ is) m = beside (does bench maker i m) (does_all is m)
 
-  abbrev closes : Parsed → List Instrument → Pending → Reaction (List Instrument)
+  abbrev closes : Option Message → List Instrument → Pending → Reaction (List Instrument)
   closes x is q = record { state = holding_all (obey_one does_all is x).state q; reply = (obey_one does_all is x).reply }
 
-  none_obeys : (x : Parsed) (q : Pending) → record { state = []; reply = [] } ≡ closes x [] q
+  none_obeys : (x : Option Message) (q : Pending) → record { state = []; reply = [] } ≡ closes x [] q
   unfolding does_all
-  none_obeys (Heard m) q = refl
-  none_obeys Unheard q = refl
+  none_obeys (Some m) q = refl
+  none_obeys None q = refl
 
-  one_obeys : (x : Parsed) (i : Instrument) (is : List Instrument) (q : Pending)
+  one_obeys : (x : Option Message) (i : Instrument) (is : List Instrument) (q : Pending)
       → beside (record { state = holding (obey_one (does bench maker) i x).state q; reply = (obey_one (does bench maker) i x).reply }) (closes x is q) ≡ closes x (i ∷ is) q
   unfolding does_all
-  one_obeys (Heard m) i is q = refl
-  one_obeys Unheard i is q = refl
+  one_obeys (Some m) i is q = refl
+  one_obeys None i is q = refl
 
   pub all_obey : Obeys does_all (hears_all bench maker) holding_all
   all_obey [] p w = no_one_hears w ∙ none_obeys (hear p w).message (hear p w).pending
@@ -92,16 +91,16 @@ module _ (bench maker : List ℤ) where
       ap₂ beside (does_nothing i m (h 0 (omega arith) (λ e. absurd (omega arith)))) (one_does is m d k (omega arith) (λ j b n. h (suc j) (omega arith) (λ e. n (omega arith))))
 
   -- what the code has: the effect of what was closed, at the card that is meant
-  pub meant : (is : List Instrument) (d : Instrument) (k : ℕ) (x : Parsed) → k < length is → ((m : Message) → x ≡ Heard m → Others is d k m)
+  pub meant : (is : List Instrument) (d : Instrument) (k : ℕ) (x : Option Message) → k < length is → ((m : Message) → x ≡ Some m → Others is d k m)
       → let i = get_or is k d in
       let r = carried_out i i.card.pending (effect_of bench maker i.card.setup i.card.offer i.values x) in
       obey_one does_all is x ≡ record { state = set is k r.state; reply = r.reply }
   unfolding stored
-  meant is d k (Heard m) l h =
+  meant is d k (Some m) l h =
       let i = get_or is k d in
       one_does is m d k l (h m refl)
       ∙ ap (λ (e : Effect). let r = carried_out i i.card.pending e in record { state = set is k r.state; reply = r.reply }) (sym (effect_heard bench maker i.card.setup i.card.offer i.values m))
-  meant is d k Unheard l h =
+  meant is d k None l h =
       let i = get_or is k d in
       (λ t. record { state = sym (set-get_or is k d) t; reply = [] })
-      ∙ ap (λ (e : Effect). let r = carried_out i i.card.pending e in record { state = set is k r.state; reply = r.reply }) (effect_unheard bench maker i.card.setup i.card.offer i.values Unheard refl)
+      ∙ ap (λ (e : Effect). let r = carried_out i i.card.pending e in record { state = set is k r.state; reply = r.reply }) (effect_unheard bench maker i.card.setup i.card.offer i.values None refl)

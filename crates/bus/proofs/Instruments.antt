@@ -1,13 +1,15 @@
 -- The cards of a pair with their values: each with its part of them, and what is sound of every card is sound of all. Assumes nothing.
 use mathlib.Core.Path.{◌≡◌, refl, sym, ap, ap₂, ◌∙◌}
-use mathlib.Core.Bool.{Bool, true}
+use mathlib.Core.Bool.{Bool, true, false}
 use mathlib.Core.List.{List, [], ◌∷◌, ◌++◌, map}
-use Prim.Native.Nat.{ℕ, zero, suc, ◌*◌, ◌<◌}
+use Prim.Native.Nat.{ℕ, zero, suc, ◌*◌, ◌/◌, ◌%◌, ◌<◌}
 use native.Mathlib.Omega.{arith}
-use borrow.Author.Tests.{eq-eqb}
+use borrow.Author.Tests.{eq-eqb, ne_eqb}
 use lib.IntN.{ℤ}
 use lib.ListN.{length, get_or, drop, length-append, length-map, get_or-map}
 use lib.Seq.{take_at, drop_at}
+use Rattle.std.specs.Simd.{first_chunks}
+use Rattle.std.specs.List.{list_all}
 use Rattle.refusal.specs.Lists.{every}
 use Rattle.refusal.proofs.Logic.{ands, and_both}
 use Rattle.refusal.proofs.Lists.{every_at}
@@ -18,7 +20,7 @@ use Rattle.card.specs.Turn.{Instrument}
 use Rattle.card.specs.Refusals.{sound_offer, sound_scan}
 use Rattle.bus.specs.Bus.{parts, joined, instruments, cards_in, values_in}
 use Rattle.bus.specs.Refusals.{fits_sheets, sound_parts}
-use Rattle.bus.proofs.Parts.{part_at, lent-part, lent_next, parts_length, part-at}
+use Rattle.bus.proofs.Parts.{part_at, lent-part, lent_next, parts_length, part-at, every_chunk}
 
 -- ---- lists one behind the other
 
@@ -83,6 +85,18 @@ each_every f g [] h = refl
 each_every f g (x ∷ xs) h = and_both (h 0 x (omega arith)) (each_every f g xs (λ k d l. h (suc k) d (omega arith)))
 
 module _ (bench maker : List ℤ) where
+  -- by the library's chunks
+  pub same_parts : (n : ℕ) (values : List ℤ) → length values % 128 ≡ 0 → length values / 128 ≡ n → list_all (sound_values bench maker) (first_chunks 128 (length values / 128) values) ≡ sound_parts bench maker n values
+  unfolding sound_parts
+  same_parts n values e h =
+      let m : length values ≡ n * 128 = omega arith in
+      every_chunk (sound_values bench maker) 128 (length values / 128) values
+      ∙ rw (eq-eqb (length values) (n * 128) m) (ap (λ (k : ℕ). every (sound_values bench maker) (parts 128 k values)) h)
+
+  pub other_parts : (n : ℕ) (values : List ℤ) → (length values ≡ n * 128 → ⊥) → false ≡ sound_parts bench maker n values
+  unfolding sound_parts
+  other_parts n values h = sym (rw (ne_eqb (length values) (n * 128) h))
+
   pub parts_sound : (n : ℕ) (values : List ℤ) (k : ℕ) → sound_parts bench maker n values ≡ true → k < n → sound_values bench maker (part_at 128 k values) ≡ true
   unfolding sound_parts
   parts_sound n values k e l = rw (part-at 128 n k values [] l) at (every_at (sound_values bench maker) [] (parts 128 n values) k (search ands) (omega (arith, parts_length 128 n values)))

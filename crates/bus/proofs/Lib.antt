@@ -6,3 +6,4 @@ pub mod Checks
 pub mod Apart
 pub mod Standing
 pub mod Back
+pub mod Taking

@@ -1,4 +1,4 @@
--- Laws of lists that are lent part behind part, and of a loop that tests each part. Assumes nothing.
+-- Laws of lists that are lent part behind part, and of a test of each part. Assumes nothing.
 use mathlib.Core.Path.{◌≡◌, refl, sym, ap, ap₂, ◌∙◌}
 use mathlib.Core.Bool.{Bool, true, false, ◌&&◌}
 use mathlib.Core.List.{List, [], ◌∷◌, ◌++◌, map, map-append, append_assoc}
@@ -7,9 +7,11 @@ use native.Mathlib.Omega.{arith}
 use native.Mathlib.Numerals.{add-one}
 use lib.IntN.{ℤ}
 use lib.ListN.{length, get_or, set, take, drop, length-set, length-append, length-drop, take-append-drop}
-use lib.Seq.{drop-drop, length-take-le, take-add, take-suc-set}
+use lib.Seq.{drop-drop, length-take-le, take-add, take-suc-set, take-suc, take_all}
 use Rattle.refusal.specs.Lists.{every}
-use Rattle.refusal.proofs.Lists.{Tested, test_starts, test_passes, test_fails, test_ends}
+use Rattle.std.specs.Simd.{first_chunks}
+use Rattle.std.specs.List.{list_all}
+use Rattle.refusal.proofs.Lists.{every_all}
 use Rattle.bus.specs.Bus.{parts}
 
 module _ {A : Type 0} (k : ℕ) where
@@ -47,12 +49,6 @@ module _ {A : Type 0} (k : ℕ) where
   parts_some zero xs h = absurd (omega arith)
   parts_some (suc n) xs h = let e : n ≡ suc n - 1 = omega arith in ap (λ (m : ℕ). take k xs ∷ parts k m (drop k xs)) e
 
-  -- one part more
-  pub parts_more : (n : ℕ) (xs : List A) → parts k (suc n) xs ≡ parts k n xs ++ (part_at n xs ∷ [])
-  unfolding parts
-  parts_more zero xs = ap (λ (x : List A). x ∷ []) (sym (first_part xs))
-  parts_more (suc n) xs = ap (λ (l : List (List A)). take k xs ∷ l) (parts_more n (drop k xs) ∙ ap (λ (x : List A). parts k n (drop k xs) ++ (x ∷ [])) (next_part n xs))
-
   -- the i-th part of the code's put back
   abbrev pub put_part : ℕ → List A → List A → List A
   put_part i part xs = take (i * k) xs ++ (part ++ drop (i * k + k - i * k) (drop (i * k) xs))
@@ -76,31 +72,15 @@ module _ {A : Type 0} (k : ℕ) where
   pub lent_next : (i : ℕ) (xs : List A) → lent_part (suc i) xs ≡ lent_part i (drop k xs)
   lent_next i xs = lent-part (suc i) xs ∙ sym (next_part i xs) ∙ sym (lent-part i (drop k xs))
 
-  -- ---- a loop that tests each part: the test's answer is b
+-- ---- a test of each part, as the library tests each of its chunks
 
-  module _ (f : List A → Bool) (n : ℕ) (xs : List A) where
-    abbrev pub TestedParts : ℕ → Type 0
-    TestedParts i = Tested f (parts k n xs) true i
+pub chunks_are : {A : Type 0} (k n : ℕ) (xs : List A) → first_chunks k n xs ≡ parts k n xs
+unfolding parts
+chunks_are k zero xs = refl
+chunks_are k (suc n) xs = ap (λ (l : List (List _)). take k xs ∷ l) (chunks_are k n (drop k xs))
 
-    pub parts_start : TestedParts 0
-    parts_start = test_starts f (parts k n xs)
-
-    module _ {i : ℕ} (t : TestedParts i) where
-      pub parts_end : n ≤ i → true ≡ every f (parts k n xs)
-      parts_end h = test_ends f [] (parts k n xs) t (omega (arith, parts_length n xs))
-
-      module _ (h : i < n) {b : Bool} (q : b ≡ f (lent_part i xs)) where
-        answer : f (get_or (parts k n xs) i []) ≡ b
-        answer = ap f (part-at n i xs [] h ∙ sym (lent-part i xs)) ∙ sym q
-
-        within : i < length (parts k n xs)
-        within = omega (arith, parts_length n xs)
-
-        pub parts_pass : b ≡ true → TestedParts (i + 1)
-        parts_pass p = test_passes f [] (parts k n xs) t within (answer ∙ p)
-
-        pub parts_fail : b ≡ false → false ≡ every f (parts k n xs)
-        parts_fail p = test_fails f [] (parts k n xs) t within (answer ∙ p)
+pub every_chunk : {A : Type 0} (f : List A → Bool) (k n : ℕ) (xs : List A) → list_all f (first_chunks k n xs) ≡ every f (parts k n xs)
+every_chunk f k n xs = ap (list_all f) (chunks_are k n xs) ∙ sym (every_all f (parts k n xs))
 
 -- ---- tests of what is made of each
 
@@ -110,28 +90,25 @@ module _ {A B : Type 0} (f : B → Bool) (g : A → B) where
   every_made [] = refl
   every_made (x ∷ xs) = ap (λ (b : Bool). f (g x) && b) (every_made xs)
 
--- ---- a loop that makes something of each row, into an array of 32
+-- ---- a loop that makes something of each, into an array of 32
 
-module _ {B : Type 0} (g : List ℤ → B) where
-  pub record Made (count : ℕ) (numbers : List ℤ) (made : List B) (i : ℕ) : Type 0 where
-    pub within : i ≤ count
+module _ {A B : Type 0} (g : A → B) where
+  pub record Made (xs : List A) (made : List B) (i : ℕ) : Type 0 where
     pub long : length made ≡ 32
-    pub so_far : take i made ≡ map g (parts 23 i numbers)
+    pub so_far : take i made ≡ map g (take i xs)
 
-  pub made_starts : (count : ℕ) (numbers : List ℤ) (made : List B) → length made ≡ 32 → Made count numbers made 0
-  unfolding parts
-  made_starts count numbers made l = record { within = omega arith; long = l; so_far = refl }
+  pub made_starts : (xs : List A) (made : List B) → length made ≡ 32 → Made xs made 0
+  made_starts xs made l = record { long = l; so_far = refl }
 
-  pub made_more : (count : ℕ) (numbers : List ℤ) (made : List B) {i : ℕ} {x : B} → Made count numbers made i → i < count → count ≤ 32 → x ≡ g (lent_part 23 i numbers) → Made count numbers (set made i x) (i + 1)
-  made_more count numbers made {i = i} {x = x} t h b e = record {
-    within = omega arith;
+  pub made_more : (xs : List A) (made : List B) (i : ℕ) (x : B) (d : A) → Made xs made i → i < length xs → length xs ≤ 32 → x ≡ g (get_or xs i d) → Made xs (set made i x) (i + 1)
+  made_more xs made i x d t h b e = record {
     long = length-set made i x ∙ t.long;
     so_far =
         rw (add-one i)
         (take-suc-set made i x (omega (arith, t.long))
-        ∙ ap₂ (λ (l : List B) (y : B). l ++ (y ∷ [])) t.so_far (e ∙ ap g (lent-part 23 i numbers))
-        ∙ sym (ap (map g) (parts_more 23 i numbers) ∙ map-append g (parts 23 i numbers) (part_at 23 i numbers ∷ [])));
+        ∙ ap₂ (λ (l : List B) (y : B). l ++ (y ∷ [])) t.so_far e
+        ∙ sym (ap (map g) (take-suc xs i d h) ∙ map-append g (take i xs) (get_or xs i d ∷ [])));
   }
 
-  pub made_ends : (count : ℕ) (numbers : List ℤ) (made : List B) {i : ℕ} → Made count numbers made i → count ≤ i → take count made ≡ map g (parts 23 count numbers)
-  made_ends count numbers made {i = i} t h = let e : i ≡ count = omega (arith, t.within) in ap (λ (n : ℕ). take n made) (sym e) ∙ t.so_far ∙ ap (λ (n : ℕ). map g (parts 23 n numbers)) e
+  pub made_ends : (xs : List A) (made : List B) (i : ℕ) → Made xs made i → i ≡ length xs → take (length xs) made ≡ map g xs
+  made_ends xs made i t e = ap (λ (n : ℕ). take n made) (sym e) ∙ t.so_far ∙ ap (map g) (take_all i xs (omega arith))

@@ -22,7 +22,6 @@ use Rattle.hearing.specs.Hearing.{none, hear, heard_from, open_after}
 use Rattle.hearing.specs.Normal.{normal}
 use Rattle.sheet.specs.Sheet.{sound_sheet}
 use Rattle.act.specs.declared.Setup.{Setup}
-use Rattle.act.specs.declared.Offer.{Offer}
 use Rattle.act.specs.Cause.{is_for}
 use Rattle.act.proofs.OnOffer.{for_parts}
 use Rattle.card.specs.declared.Card.{Card}
@@ -37,6 +36,8 @@ use Rattle.bus.specs.Refusals.{most_cards, alike, apart, same_open, together, so
 use Rattle.bus.specs.Calls.{After, kept, ended, bus_call}
 use Rattle.bus.specs.Rows.{cards_of, is_rows, rows_checks, RowsAfter, in_rows, rows_call}
 use Rattle.bus.proofs.Hearing.{holding_all, each_hears, no_one_hears, does_all, all_obey}
+use Rattle.std.specs.Prelude.{Option}
+use Rattle.act.specs.declared.Offer.{Offer}
 
 -- ---- the call
 
@@ -280,7 +281,7 @@ no_card_ends bench maker ws out =
 
 -- but for the open message
 pub record Left : Type 0 where
-  pub offers : List Offer
+  pub offers : List (Option Offer)
   pub values : List ℤ
   pub bytes : List ℕ
 
@@ -292,7 +293,7 @@ held_left is q bs = λ j. record { offers = offers is j; values = joined (values
   where
     offers : (is : List Instrument) → map (λ (c : Card). c.offer) (cards_in (holding_all is q)) ≡ map (λ (c : Card). c.offer) (cards_in is)
     offers [] = refl
-    offers (i ∷ is) = ap (λ (l : List Offer). i.card.offer ∷ l) (offers is)
+    offers (i ∷ is) = ap (λ (l : List (Option Offer)). i.card.offer ∷ l) (offers is)
 
     values : (is : List Instrument) → map (λ (i : Instrument). i.values) (holding_all is q) ≡ map (λ (i : Instrument). i.values) is
     values [] = refl

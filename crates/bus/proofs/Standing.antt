@@ -2,22 +2,20 @@
 -- are changed, and each card is stored back in its row. Assumes nothing.
 use mathlib.Core.Path.{◌≡◌, refl, sym, ap, ap₂, ◌∙◌}
 use mathlib.Core.List.{List, [], ◌∷◌, ◌++◌, map}
-use Prim.Native.Nat.{ℕ, zero, suc, ◌*◌, ◌/◌, ◌<◌, ◌≤◌}
+use Prim.Native.Nat.{ℕ, zero, suc, ◌+◌, ◌*◌, ◌/◌, ◌<◌, ◌≤◌}
 use native.Mathlib.Omega.{arith}
+use native.Mathlib.Numerals.{add-one}
 use lib.IntN.{ℤ}
 use lib.ListN.{length, get_or, set, take, drop, length-append, length-drop, take-append-drop}
-use lib.Seq.{length-take-le, take_at, drop_at}
+use lib.Seq.{length-take-le, take_at, drop_at, take_all}
 use Rattle.refusal.specs.Refusal.{gave}
 use Rattle.refusal.specs.Buffer.{laid}
 use Rattle.refusal.proofs.Buffers.{laid_nothing}
 use Rattle.message.specs.declared.Message.{Message}
-use Rattle.message.specs.declared.Parsed.{Parsed}
-use Rattle.message.specs.declared.Parsed.TheVariants.{Heard}
 use Rattle.hearing.specs.declared.Pending.{Pending}
 use Rattle.hearing.specs.declared.Hearing.{Hearing}
 use Rattle.hearing.specs.Hearing.{none, hear}
 use Rattle.act.specs.declared.Setup.{Setup}
-use Rattle.act.specs.declared.Offer.{Offer}
 use Rattle.act.specs.declared.Effect.{Effect}
 use Rattle.act.specs.Cause.{is_for}
 use Rattle.row.specs.Row.{card_of, stored_in}
@@ -37,16 +35,18 @@ use Rattle.bus.proofs.Instruments.{instrument_cards, instrument_at, instrument_c
 use Rattle.bus.proofs.Sharing.{no_one_plays}
 use Rattle.bus.proofs.Apart.{found, meant_inside}
 use Rattle.bus.proofs.Parts.{part_at, lent_part, lent_next, put_part, put_next}
+use Rattle.std.specs.Prelude.{Option, Some}
+use Rattle.act.specs.declared.Offer.{Offer}
 
 -- ---- the cards
 
-pub cards_count : (p : Pending) (ss : List Setup) (os : List Offer) → length ss ≡ length os → length (cards_with p ss os) ≡ length ss
+pub cards_count : (p : Pending) (ss : List Setup) (os : List (Option Offer)) → length ss ≡ length os → length (cards_with p ss os) ≡ length ss
 unfolding cards_with
 cards_count p [] os e = refl
 cards_count p (s ∷ ss) [] e = absurd (omega arith)
 cards_count p (s ∷ ss) (o ∷ os) e = ap suc (cards_count p ss os (omega arith))
 
-pub cards_at : (p : Pending) (ss : List Setup) (os : List Offer) (k : ℕ) (s : Setup) (o : Offer) (d : Card) → k < length ss → length ss ≡ length os
+pub cards_at : (p : Pending) (ss : List Setup) (os : List (Option Offer)) (k : ℕ) (s : Setup) (o : Option Offer) (d : Card) → k < length ss → length ss ≡ length os
     → get_or (cards_with p ss os) k d ≡ record { setup = get_or ss k s; pending = p; offer = get_or os k o }
 unfolding cards_with
 cards_at p [] os k s o d h e = absurd (omega arith)
@@ -65,14 +65,14 @@ cards_read p (r ∷ rows) h =
 -- ---- with their values
 
 -- another open message for all
-pub held_with : (p q : Pending) (ss : List Setup) (os : List Offer) (values : List ℤ) → holding_all (instruments (cards_with p ss os) values) q ≡ instruments (cards_with q ss os) values
+pub held_with : (p q : Pending) (ss : List Setup) (os : List (Option Offer)) (values : List ℤ) → holding_all (instruments (cards_with p ss os) values) q ≡ instruments (cards_with q ss os) values
 unfolding cards_with instruments
 held_with p q [] os values = refl
 held_with p q (s ∷ ss) [] values = refl
 held_with p q (s ∷ ss) (o ∷ os) values = ap (λ (is : List Instrument). record { card = record { setup = s; pending = q; offer = o }; values = take 128 values } ∷ is) (held_with p q ss os (drop 128 values))
 
 -- the k-th card with another offer and other values
-pub set_with : (p : Pending) (ss : List Setup) (os : List Offer) (values part : List ℤ) (k : ℕ) (s : Setup) (o : Offer) → k < length ss → length ss ≡ length os → length ss * 128 ≤ length values → length part ≡ 128
+pub set_with : (p : Pending) (ss : List Setup) (os : List (Option Offer)) (values part : List ℤ) (k : ℕ) (s : Setup) (o : Option Offer) → k < length ss → length ss ≡ length os → length ss * 128 ≤ length values → length part ≡ 128
     → instruments (cards_with p ss (set os k o)) (put_part 128 k part values)
     ≡ set (instruments (cards_with p ss os) values) k (record { card = record { setup = get_or ss k s; pending = p; offer = o }; values = part })
 unfolding cards_with instruments
@@ -88,14 +88,14 @@ set_with p (x ∷ ss) (y ∷ os) values part (suc k) s o h e r l =
     let onward = put_part 128 k part rest in
     let n : length front ≡ 128 = length-take-le 128 values (omega arith) in
     let room : length ss * 128 ≤ length rest = simp length-drop (omega arith) in
-    let one : Setup → Offer → List ℤ → Instrument = λ z u v. record { card = record { setup = z; pending = p; offer = u }; values = v } in
+    let one : Setup → Option Offer → List ℤ → Instrument = λ z u v. record { card = record { setup = z; pending = p; offer = u }; values = v } in
     ap (instruments (cards_with p (x ∷ ss) (y ∷ set os k o))) (put_next 128 k part values)
     ∙ ap₂ (λ (v u : List ℤ). one x y v ∷ instruments (cards_with p ss (set os k o)) u) (take_at front onward 128 n) (drop_at front onward 128 n)
     ∙ ap (λ (is : List Instrument). one x y front ∷ is) (set_with p ss os rest part k s o (omega arith) (omega arith) room l)
 
 -- ---- words
 
-module _ (bench maker : List ℤ) (ss : List Setup) (os : List Offer) (values : List ℤ) where
+module _ (bench maker : List ℤ) (ss : List Setup) (os : List (Option Offer)) (values : List ℤ) where
   -- all of them, with this open message
   abbrev pub standing : Pending → List Instrument
   standing q = instruments (cards_with q ss os) values
@@ -108,7 +108,7 @@ module _ (bench maker : List ℤ) (ss : List Setup) (os : List Offer) (values : 
       ∙ ap (λ (is : List Instrument). record { state = is; reply = [] }) (held_with none (hear q w).pending ss os values)
 
   -- a word that closes one: the card that the table finds is meant
-  module _ (table : List ℕ) (f : Finds ss table) (e : length ss ≡ length os) (r : length ss * 128 ≤ length values) (s : Setup) (o : Offer) (x : Parsed) where
+  module _ (table : List ℕ) (f : Finds ss table) (e : length ss ≡ length os) (r : length ss * 128 ≤ length values) (s : Setup) (o : Option Offer) (x : Option Message) where
     abbrev k : ℕ
     k = meant_by table x
 
@@ -129,7 +129,7 @@ module _ (bench maker : List ℤ) (ss : List Setup) (os : List Offer) (values : 
         instrument_at (cards_with none ss os) values k d.card d (omega (arith, cards_count none ss os e, h))
         ∙ ap (λ (c : Card). record { card = c; values = part_at 128 k values }) (cards_at none ss os k s o d.card h e)
 
-    others : (m : Message) → x ≡ Heard m → Others bench maker (standing none) d k m
+    others : (m : Message) → x ≡ Some m → Others bench maker (standing none) d k m
     others m q j l n =
         let b : j < length ss = omega (arith, instrument_count (cards_with none ss os) values, cards_count none ss os e) in
         ap (λ (i : Instrument). is_for i.card.setup m)
@@ -214,3 +214,26 @@ back_more (c ∷ cs) (suc i) numbers d h r =
     ∙ put_next 23 i (part (lent_part 23 i (drop 23 (first ++ rest)))) (first ++ rest)
     ∙ ap₂ (λ (a b : List ℤ). a ++ put_part 23 i (part (lent_part 23 i b)) b) (take_at first rest 23 n) (drop_at first rest 23 n)
     ∙ ap (λ (l : List ℤ). first ++ l) (back_more cs i (drop 23 numbers) d (omega arith) room)
+
+-- the first i cards are stored back
+pub record StoredBack (cards : List Card) (numbers₀ numbers : List ℤ) (i : ℕ) : Type 0 where
+  pub within : i ≤ length cards
+  pub long : length numbers ≡ length numbers₀
+  pub so_far : numbers ≡ stored_back (take i cards) numbers₀
+
+pub stored_starts : (cards : List Card) (numbers : List ℤ) → StoredBack cards numbers numbers 0
+unfolding stored_back
+stored_starts cards numbers = record { within = omega arith; long = refl; so_far = refl }
+
+-- and one more, by what its part of the rows has become
+pub stored_more : (cards : List Card) (numbers₀ numbers : List ℤ) (i : ℕ) (d : Card) (part : List ℤ) → StoredBack cards numbers₀ numbers i → i < length cards → length cards * 23 ≤ length numbers₀
+    → part ≡ stored_in (get_or cards i d) (lent_part 23 i numbers) → StoredBack cards numbers₀ (put_part 23 i part numbers) (i + 1)
+stored_more cards numbers₀ numbers i d part t h r e =
+    let now : put_part 23 i part numbers ≡ stored_back (take (i + 1) cards) numbers₀ =
+    ap (λ (x : List ℤ). put_part 23 i x numbers) e
+    ∙ ap (λ (x : List ℤ). put_part 23 i (stored_in (get_or cards i d) (lent_part 23 i x)) x) t.so_far
+    ∙ rw (add-one i) (back_more cards i numbers₀ d h r) in
+    record { within = omega arith; long = ap length now ∙ back_length (take (i + 1) cards) numbers₀ (omega (arith, length-take-le (i + 1) cards (omega arith))); so_far = now }
+
+pub stored_ends : (cards : List Card) (numbers₀ numbers : List ℤ) (i : ℕ) → StoredBack cards numbers₀ numbers i → length cards ≤ i → numbers ≡ stored_back cards numbers₀
+stored_ends cards numbers₀ numbers i t h = t.so_far ∙ ap (λ (cs : List Card). stored_back cs numbers₀) (take_all i cards h)

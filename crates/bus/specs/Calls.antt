@@ -1,4 +1,5 @@
 -- The call, over a list of cards: what it answers, and all that it leaves, for every input.
+use Rattle.card.specs.declared.Took.{Took}
 use Rattle.std.specs.Prelude.{List, ℕ, ℤ, length}
 use Rattle.refusal.specs.Refusal.{Outcome, refused, gave}
 use Rattle.refusal.specs.Buffer.{laid}
@@ -6,7 +7,6 @@ use Rattle.refusal.specs.Check.{first, decided}
 use Rattle.card.specs.declared.Card.{Card}
 use Rattle.card.specs.Run.{Played, playing}
 use Rattle.card.specs.Turn.{Instrument}
-use Rattle.card.specs.Calls.{Took}
 use Rattle.bus.specs.Bus.{instruments, cards_in, values_in, hears_all}
 use Rattle.bus.specs.Refusals.{bus_checks}
 

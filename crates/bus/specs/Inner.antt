@@ -1,11 +1,8 @@
 -- Definitions for this crate's private functions. No call and no claim cites any of it.
 use Rattle.std.specs.Prelude.{Bool, cond, ◌&&◌, List, [], ◌∷◌, ℕ, ◌+◌, ◌%◌, ◌<◌, ◌≡◌, eqb, ℤ, length, get_or}
 use Prim.Native.Char.{code}
-use Rattle.message.specs.declared.Parsed.{Parsed}
-use Rattle.message.specs.declared.Parsed.TheVariants.{Heard, Unheard}
 use Rattle.hearing.specs.declared.Pending.{Pending}
 use Rattle.act.specs.declared.Setup.{Setup}
-use Rattle.act.specs.declared.Offer.{Offer}
 use Rattle.card.specs.declared.Card.{Card}
 use Rattle.card.specs.Run.{playing}
 use Rattle.card.specs.Refusals.{sound_card}
@@ -14,13 +11,16 @@ use Rattle.bus.specs.Bus.{instruments, hears_all}
 use Rattle.bus.specs.Refusals.{fits_sheets}
 use Rattle.bus.specs.Calls.{ended}
 use Rattle.bus.specs.Rows.{cards_of, RowsAfter, in_rows}
+use Rattle.std.specs.Prelude.{None, Option, Some}
+use Rattle.act.specs.declared.Offer.{Offer}
+use Rattle.message.specs.declared.Message.{Message}
 
 -- ---- one row
 
 abbrev pub setup_in : List ℤ → Setup
 setup_in row = (card_of row).setup
 
-abbrev pub offer_in : List ℤ → Offer
+abbrev pub offer_in : List ℤ → Option Offer
 offer_in row = (card_of row).offer
 
 abbrev pub pending_in : List ℤ → Pending
@@ -49,14 +49,14 @@ pub record Finds (ss : List Setup) (table : List ℕ) : Type 0 where
   pub finds : (j : ℕ) (d : Setup) → j < length ss → get_or table (slot_in (get_or ss j d)) 0 ≡ j
 
 -- by what was closed
-unfoldable pub meant_by : List ℕ → Parsed → ℕ
-meant_by table (Heard m) = get_or table (slot_of m.letter m.address) 0
-meant_by table Unheard = 0
+unfoldable pub meant_by : List ℕ → Option Message → ℕ
+meant_by table (Some m) = get_or table (slot_of m.letter m.address) 0
+meant_by table None = 0
 
 -- ---- all the cards
 
 -- with these setups and offers, and one open message
-unfoldable pub cards_with : Pending → List Setup → List Offer → List Card
+unfoldable pub cards_with : Pending → List Setup → List (Option Offer) → List Card
 cards_with p [] os = []
 cards_with p (s ∷ ss) [] = []
 cards_with p (s ∷ ss) (o ∷ os) = record { setup = s; pending = p; offer = o } ∷ cards_with p ss os

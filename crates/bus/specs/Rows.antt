@@ -1,11 +1,11 @@
 -- The same call over the cards as a host lends them, row behind row, so that more than 32 can be lent and refused.
+use Rattle.card.specs.declared.Took.{Took}
 use Rattle.std.specs.Prelude.{Bool, cond, not, ◌&&◌, List, [], ◌∷◌, ◌++◌, map, ℕ, ◌/◌, ◌%◌, eqb, ℤ, length, take, drop}
 use Rattle.refusal.specs.Lists.{every}
 use Rattle.refusal.specs.Refusal.{Outcome, refused, gave, number_of}
 use Rattle.refusal.specs.Check.{Check, refuse_if}
 use Rattle.refusal.specs.declared.Refusal.TheVariants.{UnsoundCard}
 use Rattle.card.specs.declared.Card.{Card}
-use Rattle.card.specs.Calls.{Took}
 use Rattle.row.specs.Row.{is_row, card_of, stored_in}
 use Rattle.bus.specs.Bus.{parts}
 use Rattle.bus.specs.Refusals.{bus_checks}

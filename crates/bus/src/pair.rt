@@ -1,21 +1,20 @@
 // The cards that share a pair: whether they can, and the words of a run over them. They hear as one, and the card that is meant is found
 // by its letter and address.
-ghost use Rattle.std.specs.Prelude.{◌≡◌, true, not, map, ◌*◌, ◌≤◌, ◌<◌, length, take, drop};
+ghost use Rattle.std.specs.Prelude.{◌≡◌, true, not, map, ◌*◌, ◌≤◌, ◌<◌, length, take};
 ghost use Rattle.refusal.specs.Lists.{every};
 ghost use Rattle.refusal.specs.Refusal.{gave};
 ghost use Rattle.refusal.specs.Check.{first};
 ghost use Rattle.card.specs.Refusals.{sound_setup};
-ghost use Rattle.card.specs.Calls.{run_outcome};
-ghost use Rattle.bus.specs.Bus.{parts};
 ghost use Rattle.bus.specs.Refusals.{alike, apart, same_open, sound_bus};
-ghost use Rattle.bus.specs.Rows.{rows_in, cards_of, rows_checks, stored_back};
+ghost use Rattle.bus.specs.Rows.{cards_of, rows_checks, stored_back};
 ghost use Rattle.bus.specs.Inner.{setup_in, offer_in, pending_in, slot_of, Finds, meant_by, cards_with, served_rows};
 
+use crate::rows_in;
 use act::{Offer, Setup};
-use card::{Card, RunAnswer, answering};
-use hearing::{Halt, Pending};
-use message::Parsed;
-use refusal::Written;
+use card::{Card, Took, answering};
+use hearing::Pending;
+use message::Message;
+use sheet::{Index, Sheets};
 
 // The most cards on one pair.
 const MOST_CARDS: usize = 32;
@@ -23,91 +22,67 @@ const MOST_CARDS: usize = 32;
 // A place for each letter and address.
 const SLOTS: usize = 256;
 
+// What stands behind the last card's.
+const NO_SETUP: Setup = Setup {
+    letter: 0,
+    address: 0,
+    count: 0,
+    scan: [0; act::MOST_NAMED],
+    revision: 0,
+};
+
 // ---- the cards
 
-// The setups of the first so many cards.
-fn setups_of(numbers: &[i32], count: usize) -> [Setup; MOST_CARDS]
-    requires { (count ≤ 32) × (count * 23 ≤ length numbers.now) }
-    ensures { take count result ≡ map setup_in (parts 23 count numbers.now) }
+// The setups of the cards, and what they have on offer. They stand in two arrays: in one array of whole cards a run takes longer.
+fn held_in(rows: &[[i32; row::LENGTH]]) -> ([Setup; MOST_CARDS], [Option<Offer>; MOST_CARDS])
+    requires { length rows.now ≤ 32 }
+    ensures setups { take (length rows.now) result.0 ≡ map setup_in rows.now }
+    ensures offers { take (length rows.now) result.1 ≡ map offer_in rows.now }
 {
-    let scan = [0u8; act::MOST_NAMED];
-    let none = Setup {
-        letter: 0,
-        address: 0,
-        count: 0,
-        scan,
-        revision: 0,
-    };
-    let mut setups = [none; MOST_CARDS];
-    let mut i = 0;
-    while i < count {
-        let start = i * row::LENGTH;
-        let end = start + row::LENGTH;
-        let held = row::card_of(&numbers[start..end]);
-        let setup = held.setup;
+    let mut setups = [NO_SETUP; MOST_CARDS];
+    let mut offers = [None; MOST_CARDS];
+    for (i, row) in rows.iter().enumerate() {
+        let Card { setup, offer, .. } = row::card_of(row);
         setups[i] = setup;
-        i += 1;
-    }
-    setups
-}
-
-// What they have on offer.
-fn offers_of(numbers: &[i32], count: usize) -> [Offer; MOST_CARDS]
-    requires { (count ≤ 32) × (count * 23 ≤ length numbers.now) }
-    ensures { take count result ≡ map offer_in (parts 23 count numbers.now) }
-{
-    let none = Offer::Nothing;
-    let mut offers = [none; MOST_CARDS];
-    let mut i = 0;
-    while i < count {
-        let start = i * row::LENGTH;
-        let end = start + row::LENGTH;
-        let held = row::card_of(&numbers[start..end]);
-        let offer = held.offer;
         offers[i] = offer;
-        i += 1;
     }
-    offers
+    (setups, offers)
 }
 
 // The open message of a card.
 fn open_in(row: &[i32]) -> Pending
     ensures { result ≡ pending_in row.now }
 {
-    let held = row::card_of(row);
-    held.pending
+    row::card_of(row).pending
 }
 
 // ---- number 8
 
-// Whether each card from a place on has another letter or address.
-fn differs(setups: [Setup; MOST_CARDS], count: usize, setup: Setup, from: usize) -> bool
-    requires { count ≤ 32 }
-    ensures { result ≡ every (λ t. not (alike setup t)) (drop from (take count setups)) }
+// The same letter and address.
+#[tactic(auto, unfolding(crate::specs::Refusals::alike))]
+fn is_alike(setup: &Setup, other: &Setup) -> bool
+    ensures { result ≡ alike setup.now other.now }
 {
-    let mut j = from;
-    while j < count {
-        let other = setups[j];
-        if (setup.letter == other.letter) & (setup.address == other.address) {
-            return false;
-        }
-        j += 1;
-    }
-    true
+    setup.letter == other.letter && setup.address == other.address
 }
 
-// No two of the first so many cards share letter and address.
-fn are_apart(setups: [Setup; MOST_CARDS], count: usize) -> bool
-    requires { count ≤ 32 }
-    ensures { result ≡ apart (take count setups) }
+// Whether each of these cards has another letter or address.
+fn differs(setup: &Setup, others: &[Setup]) -> bool
+    ensures { result ≡ every (λ t. not (alike setup.now t)) others.now }
 {
-    let mut i = 0;
-    while i < count {
-        let setup = setups[i];
-        if !differs(setups, count, setup, i + 1) {
+    others.iter().all(|other| !is_alike(setup, other))
+}
+
+// No two of the cards share letter and address.
+fn are_apart(setups: &[Setup]) -> bool
+    ensures { result ≡ apart setups.now }
+{
+    let mut left = setups;
+    while let Some((setup, others)) = left.split_first() {
+        if !differs(setup, others) {
             return false;
         }
-        i += 1;
+        left = others;
     }
     true
 }
@@ -116,131 +91,82 @@ fn are_apart(setups: [Setup; MOST_CARDS], count: usize) -> bool
 fn same_open(p: Pending, q: Pending) -> bool
     ensures { result ≡ same_open p q }
 {
-    let chars = p.chars;
-    let others = q.chars;
-    (p.len == q.len) & reply::equal(&chars, &others)
+    p == q
 }
 
 // All hold this open message.
-fn all_hold(numbers: &[i32], pending: Pending) -> bool
-    ensures { result ≡ every (λ row. same_open pending (pending_in row)) (rows_in numbers.now) }
+fn all_hold(rows: &[[i32; row::LENGTH]], pending: Pending) -> bool
+    ensures { result ≡ every (λ row. same_open pending (pending_in row)) rows.now }
 {
-    let count = numbers.len() / row::LENGTH;
-    let mut i = 0;
-    while i < count {
-        let start = i * row::LENGTH;
-        let end = start + row::LENGTH;
-        if !same_open(pending, open_in(&numbers[start..end])) {
-            return false;
-        }
-        i += 1;
-    }
-    true
+    rows.iter().all(|row| same_open(pending, open_in(row)))
 }
 
 // Whether these cards can share a pair.
 pub(crate) fn sound_bus(numbers: &[i32]) -> bool
     ensures { result ≡ sound_bus (cards_of numbers.now) }
 {
-    let count = numbers.len() / row::LENGTH;
+    let rows = rows_in(numbers);
+    let count = rows.len();
     if count == 0 {
         return true;
     }
     if MOST_CARDS < count {
         return false;
     }
-    let pending = open_in(&numbers[..row::LENGTH]);
-    are_apart(setups_of(numbers, count), count) & all_hold(numbers, pending)
+    let (setups, _) = held_in(rows);
+    are_apart(&setups[..count]) && all_hold(rows, open_in(&rows[0]))
 }
 
 // ---- the card that is meant
 
 // The place of a letter and an address in the table.
+#[tactic(auto, unfolding(crate::specs::Inner::slot_of))]
 fn slot(letter: u8, address: u8) -> usize
     ensures { (result ≡ slot_of letter address) × (result < 256) }
 {
-    let low = (address % 128) as usize;
+    let low = usize::from(address % 128);
     if letter == b'R' { 128 + low } else { low }
 }
 
-// The first so many cards by their letters and addresses.
-fn table_of(setups: [Setup; MOST_CARDS], count: usize) -> [usize; SLOTS]
-    requires { (1 ≤ count) × (count ≤ 32) × (every sound_setup (take count setups) ≡ true) × (apart (take count setups) ≡ true) }
-    ensures { Finds (take count setups) result }
+// The cards by their letters and addresses.
+fn table_of(setups: &[Setup]) -> [usize; SLOTS]
+    requires { (1 ≤ length setups.now) × (every sound_setup setups.now ≡ true) × (apart setups.now ≡ true) }
+    ensures { Finds setups.now result }
 {
-    let mut table = [0usize; SLOTS];
-    let mut i = 0;
-    while i < count {
-        let setup = setups[i];
-        let at = slot(setup.letter, setup.address);
-        table[at] = i;
-        i += 1;
+    let mut table = [0; SLOTS];
+    for (i, setup) in setups.iter().enumerate() {
+        table[slot(setup.letter, setup.address)] = i;
     }
     table
 }
 
 // The card that is meant by what was closed. What isn't heard and what is for nobody are given to the first card, which takes no notice of
 // them.
-fn meant_by(table: &[usize], parsed: Parsed) -> usize
-    ensures { result ≡ meant_by table.now parsed }
+#[tactic(auto, unfolding(crate::specs::Inner::meant_by))]
+fn meant_by(table: &[usize; SLOTS], message: Option<Message>) -> usize
+    ensures { result ≡ meant_by table.now message }
 {
-    let Parsed::Heard(message) = parsed else {
-        return 0;
-    };
-    let at = slot(message.letter, message.address);
-    if at < table.len() { table[at] } else { 0 }
+    match message {
+        Some(message) => table[slot(message.letter, message.address)],
+        None => 0,
+    }
 }
 
 // ---- the words
 
-// Each of the first so many cards stored back in its row, all with this open message.
-fn store_all(
-    setups: [Setup; MOST_CARDS],
-    offers: [Offer; MOST_CARDS],
-    count: usize,
-    pending: Pending,
-    numbers: &mut [i32],
-)
-    requires { (count ≤ 32) × (count * 23 ≤ length numbers.old) }
-    ensures { numbers.new ≡ stored_back (cards_with pending (take count setups) (take count offers)) numbers.old }
+// Each of the cards stored back in its row, all with this open message.
+fn store_all(setups: &[Setup], offers: &[Option<Offer>], pending: Pending, numbers: &mut [i32])
+    requires { (length setups.now ≡ length offers.now) × (length setups.now * 23 ≤ length numbers.old) }
+    ensures { numbers.new ≡ stored_back (cards_with pending setups.now offers.now) numbers.old }
 {
-    let mut i = 0;
-    while i < count {
-        let setup = setups[i];
-        let offer = offers[i];
+    for (i, setup) in setups.iter().enumerate() {
         let held = Card {
-            setup,
+            setup: *setup,
             pending,
-            offer,
+            offer: offers[i],
         };
         let start = i * row::LENGTH;
-        let end = start + row::LENGTH;
-        row::store(held, &mut numbers[start..end]);
-        i += 1;
-    }
-}
-
-// Where a run has come: the cards are stored back.
-fn finish(
-    setups: [Setup; MOST_CARDS],
-    offers: [Offer; MOST_CARDS],
-    count: usize,
-    chars: [u8; hearing::MOST],
-    halt: Halt,
-    bytes: usize,
-    numbers: &mut [i32],
-) -> RunAnswer
-    requires { (count ≤ 32) × (count * 23 ≤ length numbers.old) }
-    ensures { (result ≡ RunAnswer.Took halt.at bytes) × (numbers.new ≡ stored_back (cards_with (record { chars = chars; len = halt.len }) (take count setups) (take count offers)) numbers.old) }
-{
-    let pending = Pending {
-        chars,
-        len: halt.len,
-    };
-    store_all(setups, offers, count, pending, numbers);
-    RunAnswer::Took {
-        words: halt.at,
-        bytes,
+        row::store(held, &mut numbers[start..start + row::LENGTH]);
     }
 }
 
@@ -248,52 +174,53 @@ fn finish(
 // meant, and no other would take notice of it.
 pub(crate) fn take_all<'a>(
     numbers: &mut [i32],
-    bench: &'a [i32],
-    maker: &'a [i32],
+    sheets: &Sheets<'a>,
     values: &mut [i32],
     words: &[u16],
     out: &mut [u8],
-) -> RunAnswer
-    requires { first (rows_checks numbers.old bench.now maker.now values.old words.now) ≡ gave tt }
-    ensures { record { numbers = numbers.new; outcome = run_outcome result; values = values.new; buffer = out.new } ≡ served_rows numbers.old bench.now maker.now values.old words.now out.old }
+) -> Took
+    requires { first (rows_checks numbers.old sheets.now.bench.now sheets.now.maker.now values.old words.now) ≡ gave tt }
+    ensures { record { numbers = numbers.new; outcome = gave result; values = values.new; buffer = out.new } ≡ served_rows numbers.old sheets.now.bench.now sheets.now.maker.now values.old words.now out.old }
 {
-    let count = numbers.len() / row::LENGTH;
+    let rows = rows_in(numbers);
+    let count = rows.len();
     if count == 0 {
-        return RunAnswer::Took {
+        return Took {
             words: words.len(),
             bytes: 0,
         };
     }
-    let setups = setups_of(numbers, count);
-    let mut offers = offers_of(numbers, count);
-    let table = table_of(setups, count);
-    let index = sheet::index(bench, maker);
-    let places = &index[..];
-    let pending = open_in(&numbers[..row::LENGTH]);
-    let mut chars = pending.chars;
-    let mut halt = hearing::to_close(&mut chars, pending.len, words, 0);
+    let mut pending = open_in(&rows[0]);
+    let (setups, mut offers) = held_in(rows);
+    let table = table_of(&setups[..count]);
+    let places = sheets.places();
+    let index = Index {
+        sheets: *sheets,
+        places: &places,
+    };
+    let mut taken = pending.to_close(words, 0);
     let mut at = 0;
-    while halt.at < words.len() {
-        let parsed = hearing::closed(&chars, halt.len);
-        let k = meant_by(&table, parsed);
-        let setup = setups[k];
-        let offer = offers[k];
+    while taken < words.len() {
+        let message = pending.close();
+        let k = meant_by(&table, message);
         let start = k * sheet::CODES;
-        let end = start + sheet::CODES;
-        let own = &mut values[start..end];
-        let effect = if answering::is_scan(parsed) {
-            answering::scan_effect(setup, offer, bench, maker, places, own, parsed)
+        let own = &mut values[start..start + sheet::CODES];
+        let effect = if answering::is_scan(message) {
+            answering::scan_effect(setups[k], offers[k], &index, own, message)
         } else {
-            answering::effect_of(setup, offer, bench, maker, places, own, parsed)
+            answering::effect_of(setups[k], offers[k], &index, own, message)
         };
-        let Written::Wrote(n) = answering::settle(effect, own, out, at) else {
-            return finish(setups, offers, count, chars, halt, at, numbers);
+        let Ok(n) = answering::settle(effect, own, out, at) else {
+            break;
         };
-        let left = effect.offer;
-        offers[k] = left;
-        chars = [0u8; hearing::MOST];
-        halt = hearing::to_close(&mut chars, 0, words, halt.at + 1);
+        offers[k] = effect.offer;
+        pending = Pending::new();
+        taken = pending.to_close(words, taken + 1);
         at += n;
     }
-    finish(setups, offers, count, chars, halt, at, numbers)
+    store_all(&setups[..count], &offers[..count], pending, numbers);
+    Took {
+        words: taken,
+        bytes: at,
+    }
 }

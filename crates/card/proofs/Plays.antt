@@ -9,8 +9,6 @@ use lib.IntN.{ℤ}
 use lib.ListN.{length}
 use Rattle.refusal.proofs.Logic.{by-test}
 use Rattle.message.specs.declared.Message.{Message}
-use Rattle.message.specs.declared.Parsed.{Parsed}
-use Rattle.message.specs.declared.Parsed.TheVariants.{Heard, Unheard}
 use Rattle.message.specs.Message.{unsigned_zero}
 use Rattle.hearing.specs.declared.Pending.{Pending}
 use Rattle.hearing.specs.Hearing.{none, hear, before, heard_from, open_after}
@@ -18,7 +16,6 @@ use Rattle.hearing.specs.Normal.{normal}
 use Rattle.hearing.proofs.Heard.{heard_start, heard_end, heard_word, before_heard, before_unheard}
 use Rattle.hearing.proofs.Normal.{heard_normal}
 use Rattle.hearing.proofs.Quiet.{heard_closed}
-use Rattle.act.specs.declared.Offer.{Offer}
 use Rattle.act.specs.declared.Effect.{Effect}
 use Rattle.act.specs.Cause.{is_for}
 use Rattle.act.specs.Act.{ours, act}
@@ -28,6 +25,8 @@ use Rattle.card.specs.declared.Card.{Card}
 use Rattle.card.specs.Run.{Reaction, Played, after}
 use Rattle.card.specs.Turn.{reply_of, effect_of, with_both, turned, turn, stored, Instrument, hears}
 use Rattle.card.proofs.Runs.{Quiet, all, all_end, all_word}
+use Rattle.std.specs.Prelude.{None, Option, Some}
+use Rattle.act.specs.declared.Offer.{Offer}
 
 -- ---- messages in place of words
 
@@ -39,19 +38,19 @@ same_heard p ws e =
 
 -- g obeys a message
 module _ {T : Type 0} (g : T → Message → Reaction T) where
-  abbrev pub obey_one : T → Parsed → Reaction T
-  obey_one t (Heard m) = g t m
-  obey_one t Unheard = record { state = t; reply = [] }
+  abbrev pub obey_one : T → Option Message → Reaction T
+  obey_one t (Some m) = g t m
+  obey_one t None = record { state = t; reply = [] }
 
   unfoldable pub obey : T → List Message → Reaction T
   obey t [] = record { state = t; reply = [] }
   obey t (m ∷ ms) = record { state = (obey (g t m).state ms).state; reply = (g t m).reply ++ (obey (g t m).state ms).reply }
 
-  obey_before : (t : T) (p : Parsed) (ms : List Message)
+  obey_before : (t : T) (p : Option Message) (ms : List Message)
       → obey t (before p ms) ≡ record { state = (obey (obey_one t p).state ms).state; reply = (obey_one t p).reply ++ (obey (obey_one t p).state ms).reply }
   unfolding obey
-  obey_before t (Heard m) ms = ap (obey t) (before_heard m ms)
-  obey_before t Unheard ms = ap (obey t) (before_unheard ms)
+  obey_before t (Some m) ms = ap (obey t) (before_heard m ms)
+  obey_before t None ms = ap (obey t) (before_unheard ms)
 
   -- f takes words: it holds the open message beside what g changes, and obeys the message that a word has closed
   module _ {S : Type 0} (f : S → ℕ → Reaction S) (holding : T → Pending → S) where
@@ -60,7 +59,7 @@ module _ {T : Type 0} (g : T → Message → Reaction T) where
 
     module _ (o : Obeys) where
       pub obeys_quiet : (t : T) → Quiet f (holding t)
-      obeys_quiet t q w u = o t q w ∙ ap (λ (p : Parsed). record { state = holding (obey_one t p).state (hear q w).pending; reply = (obey_one t p).reply }) u
+      obeys_quiet t q w u = o t q w ∙ ap (λ (p : Option Message). record { state = holding (obey_one t p).state (hear q w).pending; reply = (obey_one t p).reply }) u
 
       pub obeyed : (t : T) (p : Pending) (ws : List ℕ)
           → all f (holding t p) ws ≡ record { state = holding (obey t (heard_from p ws)).state (open_after p ws); bytes = (obey t (heard_from p ws)).reply; taken = length ws }
@@ -78,7 +77,7 @@ module _ {T : Type 0} (g : T → Message → Reaction T) where
 
 -- what playing leaves, but for the open message
 pub record Left : Type 0 where
-  pub offer : Offer
+  pub offer : Option Offer
   pub values : List ℤ
   pub bytes : List ℕ
 
@@ -102,9 +101,9 @@ module _ (bench maker : List ℤ) where
   unfolding turn turned effect_of stored
   hears_obeys i p w = by (hear p w).message
     where
-      by : (x : Parsed) → carried_out i (hear p w).pending (effect_of bench maker i.card.setup i.card.offer i.values x) ≡ record { state = holding (obey_one does i x).state (hear p w).pending; reply = (obey_one does i x).reply }
-      by (Heard m) = refl
-      by Unheard = refl
+      by : (x : Option Message) → carried_out i (hear p w).pending (effect_of bench maker i.card.setup i.card.offer i.values x) ≡ record { state = holding (obey_one does i x).state (hear p w).pending; reply = (obey_one does i x).reply }
+      by (Some m) = refl
+      by None = refl
 
   -- what it obeys, it leaves
   abbrev lefts : Reaction Instrument → Left

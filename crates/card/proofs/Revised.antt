@@ -12,15 +12,12 @@ use Rattle.refusal.specs.Check.{Check, first}
 use Rattle.refusal.proofs.Logic.{ands, not_is, by-test}
 use Rattle.refusal.proofs.Checks.{by_first}
 use Rattle.message.specs.declared.Message.{Message}
-use Rattle.message.specs.declared.Parsed.{Parsed}
-use Rattle.message.specs.declared.Parsed.TheVariants.{Heard, Unheard}
 use Rattle.message.specs.Message.{asks_minus_zero, no_minus_zero}
 use Rattle.hearing.specs.declared.Action.{Action}
 use Rattle.hearing.specs.declared.Action.TheVariants.{Ignore, Open, Add, Close, Drop}
 use Rattle.hearing.specs.Hearing.{open_of, action_of, perform, hear, before, heard_from}
 use Rattle.message.specs.Prefix.{parse}
 use Rattle.act.specs.declared.Setup.{Setup}
-use Rattle.act.specs.declared.Offer.{Offer}
 use Rattle.act.specs.declared.Effect.{Effect}
 use Rattle.act.specs.Cause.{Why, because}
 use Rattle.act.specs.Act.{of_revision}
@@ -31,24 +28,26 @@ use Rattle.card.specs.Turn.{Turn, effect_of, turned, turn, stored, Instrument, p
 use Rattle.card.specs.Cause.{why_closed, why_after, why_to}
 use Rattle.card.specs.Refusals.{is_revision, sound_setup, sound_card, sound_scan, card_checks, step_checks}
 use Rattle.card.specs.Calls.{revised, revised_after, answered, step_call, ended, run_call}
+use Rattle.std.specs.Prelude.{None, Option, Some}
+use Rattle.act.specs.declared.Offer.{Offer}
 
 -- no minus zero is heard: of the first message, and of the others
-abbrev Unsigned : Parsed → Type 0
-Unsigned (Heard m) = asks_minus_zero m.body ≡ false
-Unsigned Unheard = Unit {0}
+abbrev Unsigned : Option Message → Type 0
+Unsigned (Some m) = asks_minus_zero m.body ≡ false
+Unsigned None = Unit {0}
 
-split : (p : Parsed) (ms : List Message) → no_minus_zero (before p ms) ≡ true → Unsigned p × (no_minus_zero ms ≡ true)
+split : (p : Option Message) (ms : List Message) → no_minus_zero (before p ms) ≡ true → Unsigned p × (no_minus_zero ms ≡ true)
 unfolding no_minus_zero before every
-split (Heard m) ms e = (not_is {a = asks_minus_zero m.body} (search ands), search ands)
-split Unheard ms e = (tt, e)
+split (Some m) ms e = (not_is {a = asks_minus_zero m.body} (search ands), search ands)
+split None ms e = (tt, e)
 
 module _ (n : ℕ) (bench maker : List ℤ) where
   -- ---- a word
 
-  effect_revised : (s : Setup) (o : Offer) (values : List ℤ) (p : Parsed) → Unsigned p → effect_of bench maker (of_revision n s) o values p ≡ effect_of bench maker s o values p
+  effect_revised : (s : Setup) (o : Option Offer) (values : List ℤ) (p : Option Message) → Unsigned p → effect_of bench maker (of_revision n s) o values p ≡ effect_of bench maker s o values p
   unfolding effect_of
-  effect_revised s o values (Heard m) z = revisions_act n s m z o bench maker values
-  effect_revised s o values Unheard z = refl
+  effect_revised s o values (Some m) z = revisions_act n s m z o bench maker values
+  effect_revised s o values None z = refl
 
   abbrev revised_turn : Turn → Turn
   revised_turn t = record { card = revised n t.card; reply = t.reply; store = t.store }
@@ -83,10 +82,10 @@ module _ (n : ℕ) (bench maker : List ℤ) where
 
   -- ---- the cause
 
-  closed_revised : (s : Setup) (o : Offer) (values : List ℤ) (cs : List ℕ) (p : Parsed) → Unsigned p → why_closed bench maker (of_revision n s) o values cs p ≡ why_closed bench maker s o values cs p
+  closed_revised : (s : Setup) (o : Option Offer) (values : List ℤ) (cs : List ℕ) (p : Option Message) → Unsigned p → why_closed bench maker (of_revision n s) o values cs p ≡ why_closed bench maker s o values cs p
   unfolding why_closed
-  closed_revised s o values cs (Heard m) z = ap (λ (l : List Check). because (first l)) (revisions_cause n s m z o bench maker values)
-  closed_revised s o values cs Unheard z = refl
+  closed_revised s o values cs (Some m) z = ap (λ (l : List Check). because (first l)) (revisions_cause n s m z o bench maker values)
+  closed_revised s o values cs None z = refl
 
   after_revised : (c : Card) (values : List ℤ) (a : Action) → Unsigned (perform c.pending a).message → why_after bench maker (revised n c) values a ≡ why_after bench maker c values a
   unfolding why_after perform

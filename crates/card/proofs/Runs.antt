@@ -13,12 +13,12 @@ use lib.ListN.{length, get_or, drop, drop_of_length-le, length-append}
 use lib.Seq.{drop-cons}
 use Rattle.refusal.specs.Buffer.{laid, placed}
 use Rattle.refusal.proofs.Buffers.{Filling, fill_begins, fill_goes_on, fill_laid}
-use Rattle.message.specs.declared.Parsed.TheVariants.{Unheard}
 use Rattle.hearing.specs.declared.Pending.{Pending}
 use Rattle.hearing.specs.Hearing.{hear}
 use Rattle.hearing.specs.Inner.{Reached, to_close}
 use Rattle.hearing.proofs.Close.{reached, reached_in}
 use Rattle.card.specs.Run.{Reaction, Played, stopped, after, playing}
+use Rattle.std.specs.Prelude.{None}
 
 -- what is played, with other bytes and so many words before it
 abbrev pub behind : {S : Type 0} → List ℕ → ℕ → Played S → Played S
@@ -74,11 +74,11 @@ module _ {S : Type 0} (f : S → ℕ → Reaction S) where
 
   -- all the same but for the open message: a word that closes no heard message only changes that
   abbrev pub Quiet : (Pending → S) → Type 0
-  Quiet at = (q : Pending) (w : ℕ) → (hear q w).message ≡ Unheard → f (at q) w ≡ record { state = at (hear q w).pending; reply = [] }
+  Quiet at = (q : Pending) (w : ℕ) → (hear q w).message ≡ None → f (at q) w ≡ record { state = at (hear q w).pending; reply = [] }
 
   module _ (at : Pending → S) (quiet : Quiet at) (room : ℕ) (ws : List ℕ) where
     -- one of them
-    unheard : (q : Pending) (i : ℕ) → i < length ws → (hear q (get_or ws i 0)).message ≡ Unheard
+    unheard : (q : Pending) (i : ℕ) → i < length ws → (hear q (get_or ws i 0)).message ≡ None
         → later i (playing f (at q) room (drop i ws)) ≡ later (i + 1) (playing f (at (hear q (get_or ws i 0)).pending) room (drop (i + 1) ws))
     unfolding playing
     unheard q i h u =

@@ -1,26 +1,42 @@
 -- An effect that is carried out: its reply fits and all is done, or it does not and nothing is. Assumes nothing.
-use mathlib.Core.Path.{◌≡◌, sym, ap, ◌∙◌}
+use mathlib.Core.Path.{◌≡◌, refl, sym, ap, ◌∙◌}
 use mathlib.Core.Bool.{true, false}
-use mathlib.Core.List.{List}
-use Prim.Native.Nat.{ℕ, ◌+◌, ◌≤◌}
+use mathlib.Core.List.{List, []}
+use Prim.Native.Nat.{ℕ, ◌+◌, ◌<◌, ◌≤◌}
 use native.Mathlib.Omega.{arith}
-use borrow.Author.Tests.{leb-true, leb-false, le-leb, lt-leb}
+use borrow.Author.Tests.{leb-true, leb-false}
 use lib.IntN.{ℤ}
 use lib.ListN.{length}
-use Rattle.refusal.specs.Refusal.{refused, gave}
+use Rattle.std.specs.Prelude.{Option, Err, Ok, Result}
+use Rattle.refusal.specs.declared.Refusal.{Refusal}
+use Rattle.refusal.specs.Refusal.{refused, gave, number_of, outcome_of}
 use Rattle.refusal.specs.Buffer.{fits_at, placed}
 use Rattle.refusal.proofs.Logic.{by-test}
-use Rattle.refusal.proofs.Buffers.{placed-front}
-use Rattle.refusal.proofs.Calls.{Placed, Unplaced}
+use Rattle.refusal.specs.Call.{place_call}
+use Rattle.refusal.proofs.Buffers.{placed_nothing, placed-front}
+use Rattle.refusal.proofs.Calls.{Placed, Unplaced, placed_call, unplaced_call, fits-at, fits_not}
 use Rattle.refusal.proofs.Checks.{refused_gave}
 use Rattle.reply.specs.Reply.{longest_reply}
 use Rattle.act.specs.declared.Effect.{Effect}
 use Rattle.card.specs.declared.Card.{Card}
 use Rattle.card.specs.Turn.{reply_of, with_both, turned, stored}
-use Rattle.act.specs.Cause.{Why}
-use Rattle.card.specs.Calls.{answered}
+use Rattle.act.specs.declared.causes.Cause.{Cause}
+use Rattle.act.specs.Cause.{Why, why_of}
+use Rattle.card.specs.declared.Replied.{Replied}
+use Rattle.card.specs.Calls.{step_after, answered}
 use Rattle.card.specs.Inner.{Settled, settles}
 use Rattle.card.proofs.Turns.{reply_length}
+
+-- ---- silence has no bytes, and fits wherever the place is in the buffer
+
+module _ (at : ℕ) (out : List ℕ) where
+  pub silence_short : length out < at → place_call [] at out ≡ record { outcome = refused 5; buffer = out }
+  silence_short h = unplaced_call [] at out (fits_not [] at out (omega arith))
+
+  pub silence_placed : at ≤ length out → place_call [] at out ≡ record { outcome = gave 0; buffer = out }
+  silence_placed h = placed_call [] at out (fits-at [] at out (omega arith)) ∙ (λ j. record { outcome = gave 0; buffer = placed_nothing at out j })
+
+-- ---- an effect
 
 module _ (e : Effect) (values : List ℤ) (at : ℕ) (out : List ℕ) where
   abbrev reply : List ℕ
@@ -33,18 +49,6 @@ module _ (e : Effect) (values : List ℤ) (at : ℕ) (out : List ℕ) where
   is_none : fits_at reply at out ≡ false → settles e values at out ≡ record { outcome = refused 5; values = values; buffer = out }
   unfolding settles
   is_none t = rw t
-
-  -- as the code has it, after the two writes
-  pub settled_all : {n : ℕ} {values' : List ℤ} {out' : List ℕ} → Placed reply at out out' n → values' ≡ stored values e.store
-      → record { outcome = gave n; values = values'; buffer = out' } ≡ settles e values at out
-  unfolding fits_at
-  settled_all p v =
-      (λ j. record { outcome = gave (p.count j); values = v j; buffer = p.leaves j }) ∙ sym (is_all (le-leb (at + length reply) (length out) p.room))
-
-  pub settled_none : {out' : List ℕ} → Unplaced reply at out out' → record { outcome = refused 5; values = values; buffer = out' } ≡ settles e values at out
-  unfolding fits_at
-  settled_none p =
-      (λ j. record { outcome = refused 5; values = values; buffer = p.leaves j }) ∙ sym (is_none (lt-leb (at + length reply) (length out) p.short))
 
   -- what the answer tells
   pub record Done (s : Settled) (n : ℕ) : Type 0 where
@@ -94,3 +98,10 @@ module _ (c : Card) (e : Effect) (values : List ℤ) (out : List ℕ) (h : longe
       let d = gave_done e values 0 out s p n g in
       let b = d.said.leaves ∙ placed-front (reply_of e.said) out in
       λ j. record { card = q j; outcome = gave (record { bytes = d.said.count j; cause = y }); values = d.kept j; buffer = b j }
+
+  -- the same, as the code has it: what was settled, and the answer made of it
+  pub word_answered : (c' : Card) (a : Result ℕ Refusal) (r : Result Replied Refusal) (y : Option Cause) → c' ≡ with_both c c.pending e.offer → s.outcome ≡ outcome_of a
+      → ((n : ℕ) → a ≡ Ok n → r ≡ Ok (record { bytes = n; cause = y })) → step_after (record { card = c'; answer = r }) s.values s.buffer ≡ answered (turned c c.pending e) (why_of y) values out
+  word_answered c' (Err k) r y q g f = absurd (settled_always (number_of k) g)
+  word_answered c' (Ok n) r y q g f =
+      ap (λ (x : Result Replied Refusal). step_after (record { card = c'; answer = x }) s.values s.buffer) (f n refl) ∙ answered_is c' n (why_of y) q g

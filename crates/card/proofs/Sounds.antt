@@ -12,8 +12,6 @@ use lib.ListN.{get_or}
 use Rattle.refusal.specs.Lists.{every}
 use Rattle.refusal.proofs.Logic.{ands, and_both, and_left, and_right, by-test}
 use Rattle.message.specs.declared.Message.{Message}
-use Rattle.message.specs.declared.Parsed.{Parsed}
-use Rattle.message.specs.declared.Parsed.TheVariants.{Heard, Unheard}
 use Rattle.message.specs.Message.{is_letter, is_address}
 use Rattle.message.proofs.Messages.{parts}
 use Rattle.message.proofs.Reading.{Heard-is}
@@ -22,19 +20,12 @@ use Rattle.hearing.specs.Sound.{sound_pending}
 use Rattle.hearing.proofs.Heard.{hear_message}
 use Rattle.hearing.proofs.Sound.{hear_sound}
 use Rattle.sheet.specs.declared.Row.{Row}
-use Rattle.sheet.specs.declared.Entry.{Entry}
-use Rattle.sheet.specs.declared.Entry.TheVariants.{Found, Missing}
 use Rattle.sheet.specs.Lookup.{has_row}
 use Rattle.sheet.specs.Values.{entry_in, is_readable, is_readable_entry, is_writable, sound_values}
 use Rattle.sheet.proofs.Values.{entry_absent, entry_sound, cut_fits, set_sound, set_elsewhere}
 use Rattle.reply.specs.declared.Answer.{Answer}
 use Rattle.reply.specs.Reply.{scan_identifier, is_answer}
 use Rattle.act.specs.declared.Setup.{Setup}
-use Rattle.act.specs.declared.Offer.{Offer}
-use Rattle.act.specs.declared.Offer.TheVariants.{Nothing, Held}
-use Rattle.act.specs.declared.Said.TheVariants.{Reply}
-use Rattle.act.specs.declared.Store.{Store}
-use Rattle.act.specs.declared.Store.TheVariants.{Keep, Put}
 use Rattle.act.specs.Cause.{is_for}
 use Rattle.act.specs.Act.{named, names_from, act}
 use Rattle.act.proofs.OnOffer.{Leaves, act_leaves, act_neighbour}
@@ -43,6 +34,11 @@ use Rattle.card.specs.declared.Card.{Card}
 use Rattle.card.specs.Turn.{effect_of, turn, stored}
 use Rattle.card.specs.Refusals.{is_revision, sound_setup, sound_card, offerable, sound_offer, no_scan_row, sound_scan}
 use Rattle.card.proofs.Turns.{effects, turn_card, turn_store}
+use Rattle.std.specs.Prelude.{None, Option, Some}
+use Rattle.act.specs.Act.{held}
+use Rattle.act.specs.Act.{storing}
+use Rattle.act.specs.declared.Offer.{Offer}
+use Rattle.act.specs.declared.Store.{Store}
 
 -- ---- a sound card
 
@@ -76,7 +72,7 @@ first_revision = refl
 
 -- ---- a sound offer
 
-pub nothing_sound : (bench maker : List ℤ) → sound_offer bench maker Nothing ≡ true
+pub nothing_sound : (bench maker : List ℤ) → sound_offer bench maker None ≡ true
 unfolding sound_offer
 nothing_sound bench maker = refl
 
@@ -86,37 +82,37 @@ pub record Offerable (bench maker : List ℤ) (i : ℕ) (z : ℤ) : Type 0 where
   pub writable : is_writable allowed.row ≡ true
 
 module _ (bench maker : List ℤ) where
-  pub offer_parts : (i : ℕ) (z : ℤ) → sound_offer bench maker (Held i z) ≡ true → Offerable bench maker i z
+  pub offer_parts : (i : ℕ) (z : ℤ) → sound_offer bench maker (held i z) ≡ true → Offerable bench maker i z
   unfolding sound_offer offerable
   offer_parts i z h = go (entry_in bench maker i) refl h
     where
-      go : (e : Entry) → entry_in bench maker i ≡ e → offerable e z ≡ true → Offerable bench maker i z
-      go (Found r) f q = record { allowed = record { row = r; found = f; fits = search ands }; writable = search ands }
-      go Missing f q = absurd (false≢true q)
+      go : (e : Option Row) → entry_in bench maker i ≡ e → offerable e z ≡ true → Offerable bench maker i z
+      go (Some r) f q = record { allowed = record { row = r; found = f; fits = search ands }; writable = search ands }
+      go None f q = absurd (false≢true q)
 
-  pub parts_offer : (i : ℕ) (z : ℤ) → Offerable bench maker i z → sound_offer bench maker (Held i z) ≡ true
+  pub parts_offer : (i : ℕ) (z : ℤ) → Offerable bench maker i z → sound_offer bench maker (held i z) ≡ true
   unfolding sound_offer offerable
   parts_offer i z p = rw p.allowed.found (and_both p.writable p.allowed.fits)
 
-  offer_fair : (o : Offer) → sound_offer bench maker o ≡ true → Fair bench maker o
-  offer_fair Nothing h = tt
-  offer_fair (Held i z) h = (offer_parts i z h).allowed
+  offer_fair : (o : Option Offer) → sound_offer bench maker o ≡ true → Fair bench maker o
+  offer_fair None h = tt
+  offer_fair (Some o) h = (offer_parts o.identifier o.value h).allowed
 
   -- what a message leaves on offer
-  pub leaves_sound : (m : Message) (i : ℕ) (z : ℤ) → Leaves bench maker m i z → sound_offer bench maker (Held i z) ≡ true
+  pub leaves_sound : (m : Message) (i : ℕ) (z : ℤ) → Leaves bench maker m i z → sound_offer bench maker (held i z) ≡ true
   leaves_sound m i z l =
       let r = l.row in
-      let f : entry_in bench maker i ≡ Found r = ap (entry_in bench maker) (sym l.its) ∙ l.found in
+      let f : entry_in bench maker i ≡ Some r = ap (entry_in bench maker) (sym l.its) ∙ l.found in
       let c = cut_fits r (entry_sound bench maker i r f) l.number.number l.in-range in
       parts_offer i z (record { allowed = record { row = r; found = f; fits = rw l.value at c }; writable = l.writable })
 
-  act_sound : (s : Setup) (o : Offer) (values : List ℤ) (m : Message) → sound_offer bench maker o ≡ true → sound_offer bench maker (act bench maker s o values m).offer ≡ true
+  act_sound : (s : Setup) (o : Option Offer) (values : List ℤ) (m : Message) → sound_offer bench maker o ≡ true → sound_offer bench maker (act bench maker s o values m).offer ≡ true
   act_sound s o values m h =
       by-test (is_for s m) (λ t. go t (act bench maker s o values m).offer refl) (λ t. rw (act_neighbour bench maker m s o values t) h)
     where
-      go : is_for s m ≡ true → (x : Offer) → (act bench maker s o values m).offer ≡ x → sound_offer bench maker x ≡ true
-      go t Nothing e = nothing_sound bench maker
-      go t (Held i z) e = leaves_sound m i z (act_leaves bench maker m s o values t i z e)
+      go : is_for s m ≡ true → (x : Option Offer) → (act bench maker s o values m).offer ≡ x → sound_offer bench maker x ≡ true
+      go t None e = nothing_sound bench maker
+      go t (Some x) e = leaves_sound m x.identifier x.value (act_leaves bench maker m s o values t x.identifier x.value e)
 
 -- ---- the scan
 
@@ -137,10 +133,10 @@ unfolding names_from every
 each_name f s j zero h = refl
 each_name f s j (suc n) h = and_both (h j (omega arith)) (each_name f s (suc j) n (λ k l. h k (omega arith)))
 
-entry_read : (e : Entry) → is_readable_entry e ≡ true → (r : Row) × (e ≡ Found r)
+entry_read : (e : Option Row) → is_readable_entry e ≡ true → (r : Row) × (e ≡ Some r)
 unfolding is_readable_entry
-entry_read (Found r) h = (r, refl)
-entry_read Missing h = absurd (false≢true h)
+entry_read (Some r) h = (r, refl)
+entry_read None h = absurd (false≢true h)
 
 scan_fair : (bench maker : List ℤ) (s : Setup) → sound_scan bench maker s ≡ true → FairScan bench maker s
 unfolding sound_scan
@@ -149,7 +145,7 @@ scan_fair bench maker s e = record {
   rows = λ k h. entry_read (entry_in bench maker (named s k)) (names_each (λ (i : ℕ). is_readable_entry (entry_in bench maker i)) s 0 s.count k (search ands) (omega arith) (omega arith));
 }
 
-found_missing : {r : Row} → Found r ≡ Missing → ⊥
+found_missing : {r : Row} → Some r ≡ None → ⊥
 found_missing e = let n : ◌≡◌ {A = ℕ} 0 1 = cc in omega arith
 
 module _ (bench maker : List ℤ) where
@@ -162,7 +158,7 @@ module _ (bench maker : List ℤ) where
   scan_no_row s e = search ands
 
   -- so an identifier with a row is another
-  pub row_no_scan : no_scan_row bench maker ≡ true → (i : ℕ) (r : Row) → entry_in bench maker i ≡ Found r → eqb i scan_identifier ≡ false
+  pub row_no_scan : no_scan_row bench maker ≡ true → (i : ℕ) (r : Row) → entry_in bench maker i ≡ Some r → eqb i scan_identifier ≡ false
   row_no_scan e i r f =
       let p = neither (has_row bench scan_identifier) (has_row maker scan_identifier) e in
       by-test (eqb i scan_identifier)
@@ -176,7 +172,7 @@ module _ (bench maker : List ℤ) where
 
   module _ (e : no_scan_row bench maker ≡ true) (s : Setup) where
     -- a scan whose identifiers all have a row that can be read
-    pub readable_scan : (eqb s.count 0 || eqb s.count 4 || eqb s.count 5) ≡ true → ((k : ℕ) → k < s.count → (r : Row) × (entry_in bench maker (named s k) ≡ Found r) × (is_readable r ≡ true)) → sound_scan bench maker s ≡ true
+    pub readable_scan : (eqb s.count 0 || eqb s.count 4 || eqb s.count 5) ≡ true → ((k : ℕ) → k < s.count → (r : Row) × (entry_in bench maker (named s k) ≡ Some r) × (is_readable r ≡ true)) → sound_scan bench maker s ≡ true
     unfolding sound_scan is_readable_entry
     readable_scan n h =
         and_both (and_both e n) (each_name (λ (i : ℕ). is_readable_entry (entry_in bench maker i)) s 0 s.count (λ k l. let x = h k (omega arith) in rw x.1 x.2))
@@ -189,46 +185,46 @@ module _ (bench maker : List ℤ) where
 
 module _ (bench maker values : List ℤ) where
   -- what it stores, the row allows
-  abbrev Stores : Store → Type 0
-  Stores s = (i : ℕ) (z : ℤ) → s ≡ Put i z → Allowed bench maker i z
+  abbrev Stores : Option Store → Type 0
+  Stores s = (i : ℕ) (z : ℤ) → s ≡ storing i z → Allowed bench maker i z
 
-  stored_sound : sound_values bench maker values ≡ true → (s : Store) → Stores s → sound_values bench maker (stored values s) ≡ true
+  stored_sound : sound_values bench maker values ≡ true → (s : Option Store) → Stores s → sound_values bench maker (stored values s) ≡ true
   unfolding stored
-  stored_sound v Keep h = v
-  stored_sound v (Put i z) h = let a = h i z refl in set_sound bench maker values i a.row z v a.found a.fits
+  stored_sound v None h = v
+  stored_sound v (Some s) h = let a = h s.place s.value refl in set_sound bench maker values s.place a.row s.value v a.found a.fits
 
-  stored_elsewhere : (s : Store) → Stores s → (k : ℕ) → entry_in bench maker k ≡ Missing → get_or (stored values s) k (pos 0) ≡ get_or values k (pos 0)
+  stored_elsewhere : (s : Option Store) → Stores s → (k : ℕ) → entry_in bench maker k ≡ None → get_or (stored values s) k (pos 0) ≡ get_or values k (pos 0)
   unfolding stored
-  stored_elsewhere Keep h k e = refl
-  stored_elsewhere (Put i z) h k e =
-      let a = h i z refl in
-      set_elsewhere values i k z (λ (q : k ≡ i). found_missing (sym a.found ∙ ap (entry_in bench maker) (sym q) ∙ e))
+  stored_elsewhere None h k e = refl
+  stored_elsewhere (Some s) h k e =
+      let a = h s.place s.value refl in
+      set_elsewhere values s.place k s.value (λ (q : k ≡ s.place). found_missing (sym a.found ∙ ap (entry_in bench maker) (sym q) ∙ e))
 
 -- ---- a word
 
 module _ (bench maker : List ℤ) (c : Card) (values : List ℤ) (h : sound_offer bench maker c.offer ≡ true) where
-  effect_offer : (p : Parsed) → sound_offer bench maker (effects bench maker c values p).offer ≡ true
+  effect_offer : (p : Option Message) → sound_offer bench maker (effects bench maker c values p).offer ≡ true
   unfolding effect_of
-  effect_offer (Heard m) = act_sound bench maker c.setup c.offer values m h
-  effect_offer Unheard = h
+  effect_offer (Some m) = act_sound bench maker c.setup c.offer values m h
+  effect_offer None = h
 
   module _ (n : sound_scan bench maker c.setup ≡ true) (v : sound_values bench maker values ≡ true) where
-    effect_good : (p : Parsed) → Heard-is p → Good bench maker (effects bench maker c values p)
+    effect_good : (p : Option Message) → Heard-is p → Good bench maker (effects bench maker c values p)
     unfolding effect_of
-    effect_good (Heard m) e = good_act bench maker values v m (parts m e) c.setup c.offer (scan_fair bench maker c.setup n) (offer_fair bench maker c.offer h)
-    effect_good Unheard e = good_silence bench maker c.offer
+    effect_good (Some m) e = good_act bench maker values v m (parts m e) c.setup c.offer (scan_fair bench maker c.setup n) (offer_fair bench maker c.offer h)
+    effect_good None e = good_silence bench maker c.offer
 
     module _ (w : ℕ) where
       word_good : Good bench maker (effects bench maker c values (hear c.pending w).message)
       word_good = effect_good (hear c.pending w).message (hear_message c.pending w)
 
-      pub said_answer : (a : Answer) → (effects bench maker c values (hear c.pending w).message).said ≡ Reply a → is_answer a ≡ true
+      pub said_answer : (a : Answer) → (effects bench maker c values (hear c.pending w).message).said ≡ Some a → is_answer a ≡ true
       said_answer = word_good.answers
 
       pub values_stay : sound_values bench maker (stored values (turn bench maker c values w).store) ≡ true
       values_stay = rw (turn_store bench maker c values w) (stored_sound bench maker values v _ word_good.stores)
 
-      pub places_stay : (i : ℕ) → entry_in bench maker i ≡ Missing → get_or (stored values (turn bench maker c values w).store) i (pos 0) ≡ get_or values i (pos 0)
+      pub places_stay : (i : ℕ) → entry_in bench maker i ≡ None → get_or (stored values (turn bench maker c values w).store) i (pos 0) ≡ get_or values i (pos 0)
       places_stay i e = rw (turn_store bench maker c values w) (stored_elsewhere bench maker values _ word_good.stores i e)
 
   pub offer_stays : (w : ℕ) → sound_offer bench maker (turn bench maker c values w).card.offer ≡ true

@@ -17,7 +17,6 @@ use Rattle.reply.specs.Reply.{longest_reply}
 use Rattle.sheet.specs.Sheet.{sound_sheet}
 use Rattle.sheet.specs.Values.{sound_values}
 use Rattle.card.specs.declared.Card.{Card}
-use Rattle.card.specs.declared.StepAnswer.TheVariants.{Refused}
 use Rattle.refusal.specs.declared.Refusal.TheVariants.{RoomTooShort}
 use Rattle.act.specs.Cause.{Why}
 use Rattle.card.specs.Cause.{why_to}
@@ -25,6 +24,7 @@ use Rattle.card.specs.Turn.{turn, stored, play}
 use Rattle.card.proofs.Turns.{stays}
 use Rattle.card.specs.Refusals.{sound_card, sound_offer, sound_scan, card_checks, room_check, step_checks}
 use Rattle.card.specs.Calls.{After, kept, WordAnswer, bytes_of, step_after, answered, step_call, ended, run_call}
+use Rattle.std.specs.Prelude.{Err}
 
 -- a test that is passed
 passes : {b : Bool} → b ≡ true → not b ≡ false
@@ -109,7 +109,7 @@ room_enough out h = first_passes (room_check out) [] (le-ltb (length out) longes
 
 -- a word refused for want of room, as the code gives it
 pub short_taken : (c : Card) (bench maker values : List ℤ) (w : ℕ) (out : List ℕ) → length out < longest_reply
-    → decided (first (room_check out ∷ [])) (kept c values out) (answered (turn bench maker c values w) (why_to bench maker c values w) values out) ≡ step_after (record { card = c; answer = Refused RoomTooShort }) values out
+    → decided (first (room_check out ∷ [])) (kept c values out) (answered (turn bench maker c values w) (why_to bench maker c values w) values out) ≡ step_after (record { card = c; answer = Err RoomTooShort }) values out
 short_taken c bench maker values w out h = rw (room_short out h)
 
 -- ---- the calls

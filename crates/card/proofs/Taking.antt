@@ -1,21 +1,18 @@
 -- The loop of a run over one card, by what its code has in hand: `card::take_all` cites these laws, and so does `trace::take_all`.
 -- Assumes nothing.
-use mathlib.Core.Path.{◌≡◌, sym, ap, ap₂, subst, ◌∙◌}
+use mathlib.Core.Path.{◌≡◌, sym, ap, subst, ◌∙◌}
 use mathlib.Core.List.{List}
 use Prim.Native.Nat.{ℕ, ◌+◌, ◌-◌, ◌≤◌, ◌<◌}
 use native.Mathlib.Omega.{arith}
 use lib.IntN.{ℤ}
 use lib.ListN.{length, get_or, drop}
 use Rattle.refusal.specs.Refusal.{gave}
-use Rattle.message.specs.declared.Parsed.{Parsed}
 use Rattle.message.specs.Prefix.{parse}
-use Rattle.hearing.specs.declared.Halt.{Halt}
 use Rattle.hearing.specs.declared.Pending.{Pending}
-use Rattle.hearing.specs.Hearing.{most, none, open_of, hear}
-use Rattle.hearing.specs.Inner.{Reached, halt_of, to_close}
-use Rattle.hearing.proofs.Close.{reached_in, reached_long}
+use Rattle.hearing.specs.Hearing.{none, open_of, hear}
+use Rattle.hearing.specs.Inner.{Reached, to_close}
+use Rattle.hearing.proofs.Close.{reached_in}
 use Rattle.act.specs.declared.Setup.{Setup}
-use Rattle.act.specs.declared.Offer.{Offer}
 use Rattle.act.specs.declared.Effect.{Effect}
 use Rattle.card.specs.declared.Card.{Card}
 use Rattle.card.specs.Calls.{ended}
@@ -26,31 +23,31 @@ use Rattle.card.proofs.Turns.{effects, turn_closes}
 use Rattle.card.proofs.Runs.{Quiet, Carried, played_from, starts, begins, turned as Turned-on, carried-reached, no_room, over}
 use Rattle.card.proofs.Plays.{holding, carried_out, does, obeys_quiet, hears_obeys}
 use Rattle.card.proofs.Settled.{Done, Undone}
+use Rattle.std.specs.Prelude.{Option}
+use Rattle.act.specs.declared.Offer.{Offer}
+use Rattle.message.specs.declared.Message.{Message}
 
 -- where the code stands, and the card there
-abbrev pub reached_of : List ℕ → Halt → Reached
-reached_of chars halt = record { pending = record { chars = chars; len = halt.len }; at = halt.at }
+abbrev pub reached_of : Pending → ℕ → Reached
+reached_of pending taken = record { pending = pending; at = taken }
 
-abbrev pub stands_at : Setup → Offer → List ℤ → Reached → Instrument
+abbrev pub stands_at : Setup → Option Offer → List ℤ → Reached → Instrument
 stands_at setup offer values r = record { card = record { setup = setup; pending = r.pending; offer = offer }; values = values }
 
 -- a word that is left closes the message
 abbrev pub Closes : List ℕ → Reached → Type 0
 Closes ws r = r.at < length ws → hear r.pending (get_or ws r.at 0) ≡ record { pending = none; message = parse (open_of r.pending) }
 
--- ---- words taken up to one that closes a message, from the place i on with q open before: what `hearing::to_close` answers and leaves
+-- ---- words taken up to one that closes a message, from the place i on with q open before: what `Pending::to_close` answers and leaves
 
-abbrev pub Came : Pending → List ℕ → ℕ → List ℕ → Halt → Type 0
-Came q ws i chars halt = (halt ≡ halt_of (to_close q (drop i ws) i)) × (chars ≡ (to_close q (drop i ws) i).pending.chars)
+abbrev pub Came : Pending → List ℕ → ℕ → Pending → ℕ → Type 0
+Came q ws i pending taken = (taken ≡ (to_close q (drop i ws) i).at) × (pending ≡ (to_close q (drop i ws) i).pending)
 
-module _ (q : Pending) (ws : List ℕ) (i : ℕ) (chars : List ℕ) (halt : Halt) (e : Came q ws i chars halt) where
-  pub came_to : reached_of chars halt ≡ to_close q (drop i ws) i
-  came_to = ap₂ reached_of e.1 e.0
+module _ (q : Pending) (ws : List ℕ) (i : ℕ) (pending : Pending) (taken : ℕ) (e : Came q ws i pending taken) where
+  pub came_to : reached_of pending taken ≡ to_close q (drop i ws) i
+  came_to = λ j. reached_of (e.1 j) (e.0 j)
 
-  pub came_long : length q.chars ≡ most → length chars ≡ most
-  came_long h = ap length e.1 ∙ reached_long ws q i h
-
-  pub came_in : i ≤ length ws → (i ≤ halt.at) × (halt.at ≤ length ws)
+  pub came_in : i ≤ length ws → (i ≤ taken) × (taken ≤ length ws)
   came_in h = subst (λ (r : Reached). (i ≤ r.at) × (r.at ≤ length ws)) (sym came_to) (reached_in ws q i h)
 
 -- ---- at an instrument
@@ -72,7 +69,7 @@ module _ (bench maker : List ℤ) where
         begins takes out ws (stands_at c.setup c.offer values r) r.at (subst (λ (x : Reached). x.at ≤ length ws) (sym e) (reached_in ws c.pending 0 (omega arith)).1)
 
   -- the effect e of a message that the word w has closed is its turn
-  pub closed-turns : (i : Instrument) (w : ℕ) (e : Effect) (p : Parsed) → e ≡ effects bench maker i.card i.values p → p ≡ parse (open_of i.card.pending)
+  pub closed-turns : (i : Instrument) (w : ℕ) (e : Effect) (p : Option Message) → e ≡ effects bench maker i.card i.values p → p ≡ parse (open_of i.card.pending)
       → hear i.card.pending w ≡ record { pending = none; message = parse (open_of i.card.pending) } → carried_out i none e ≡ takes i w
   unfolding turned
   closed-turns i w e p is-effect is-parsed closes =

@@ -1,14 +1,10 @@
 -- The calls: what each answers, and all that it leaves, for every input.
 use Rattle.std.specs.Prelude.{List, ℕ, ℤ, length}
-use Rattle.refusal.specs.Refusal.{Outcome, refused, gave, number_of}
+use Rattle.refusal.specs.Refusal.{Outcome, refused, gave, number_of, outcome_of}
 use Rattle.refusal.specs.Buffer.{laid}
 use Rattle.refusal.specs.Check.{first, decided}
 use Rattle.card.specs.declared.Card.{Card}
-use Rattle.card.specs.declared.StepAnswer.{StepAnswer}
-use Rattle.card.specs.declared.StepAnswer.TheVariants as step
 use Rattle.card.specs.declared.Stepped.{Stepped}
-use Rattle.card.specs.declared.RunAnswer.{RunAnswer}
-use Rattle.card.specs.declared.RunAnswer.TheVariants as run
 use Rattle.card.specs.declared.Ran.{Ran}
 use Rattle.act.specs.Cause.{Why, why_of}
 use Rattle.act.specs.Act.{of_revision}
@@ -16,6 +12,10 @@ use Rattle.card.specs.Cause.{why_to}
 use Rattle.card.specs.Run.{Played}
 use Rattle.card.specs.Turn.{Turn, turn, stored, Instrument, play}
 use Rattle.card.specs.Refusals.{card_checks, step_checks}
+use Rattle.std.specs.Prelude.{Err, Ok, Result}
+use Rattle.card.specs.declared.Replied.{Replied}
+use Rattle.card.specs.declared.Took.{Took}
+use Rattle.refusal.specs.declared.Refusal.{Refusal}
 
 -- all that a call on a card answers and leaves: the card, the outcome, the values and the buffer afterwards
 pub record After (A : Type 0) : Type 0 where
@@ -43,9 +43,9 @@ pub record WordAnswer : Type 0 where
   pub cause : Why
 
 -- the answer: a number, or that
-abbrev pub step_outcome : StepAnswer → Outcome WordAnswer
-step_outcome (step.Refused r) = refused (number_of r)
-step_outcome (step.Replied n x) = gave (record { bytes = n; cause = why_of x })
+abbrev pub step_outcome : Result Replied Refusal → Outcome WordAnswer
+step_outcome (Err r) = refused (number_of r)
+step_outcome (Ok r) = gave (record { bytes = r.bytes; cause = why_of r.cause })
 
 -- its bytes alone
 abbrev pub bytes_of : Outcome WordAnswer → Outcome ℕ
@@ -67,17 +67,8 @@ step_call c bench maker values w out =
 
 -- ---- a run
 
--- words taken and bytes written
-pub record Took : Type 0 where
-  pub words : ℕ
-  pub bytes : ℕ
-
-abbrev pub run_outcome : RunAnswer → Outcome Took
-run_outcome (run.Refused r) = refused (number_of r)
-run_outcome (run.Took w b) = gave (record { words = w; bytes = b })
-
 abbrev pub run_after : Ran → List ℤ → List ℕ → After Took
-run_after r values out = record { card = r.card; outcome = run_outcome r.answer; values = values; buffer = out }
+run_after r values out = record { card = r.card; outcome = outcome_of r.answer; values = values; buffer = out }
 
 -- what a run that is served leaves: all that was played, at the front of the buffer
 abbrev pub ended : Played Instrument → List ℕ → After Took

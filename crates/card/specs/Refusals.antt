@@ -6,17 +6,16 @@ use Rattle.refusal.specs.declared.Refusal.TheVariants.{UnsoundCard, UnsoundSheet
 use Rattle.wire.specs.Word.{valid_words}
 use Rattle.message.specs.Message.{is_letter, is_address}
 use Rattle.hearing.specs.Sound.{sound_pending}
-use Rattle.sheet.specs.declared.Entry.{Entry}
-use Rattle.sheet.specs.declared.Entry.TheVariants.{Found, Missing}
 use Rattle.sheet.specs.Sheet.{sound_sheet}
 use Rattle.sheet.specs.Lookup.{has_row}
 use Rattle.sheet.specs.Values.{entry_in, is_readable_entry, is_writable, fits_row, sound_values}
 use Rattle.reply.specs.Reply.{longest_reply, scan_identifier}
 use Rattle.act.specs.declared.Setup.{Setup}
 use Rattle.act.specs.Act.{names_from}
-use Rattle.act.specs.declared.Offer.{Offer}
-use Rattle.act.specs.declared.Offer.TheVariants.{Nothing, Held}
 use Rattle.card.specs.declared.Card.{Card}
+use Rattle.std.specs.Prelude.{None, Option, Some}
+use Rattle.act.specs.declared.Offer.{Offer}
+use Rattle.sheet.specs.declared.Row.{Row}
 
 -- document 02, ticket 5: "A card states its revision, 1 or 2"; "an unknown revision is number 1"
 unfoldable pub is_revision : ℕ → Bool
@@ -31,14 +30,14 @@ unfoldable pub sound_card : Card → Bool
 sound_card c = sound_setup c.setup && sound_pending c.pending
 
 -- a value that a Type 3 can leave on offer
-unfoldable pub offerable : Entry → ℤ → Bool
-offerable (Found r) z = is_writable r && fits_row r z
-offerable Missing z = false
+unfoldable pub offerable : Option Row → ℤ → Bool
+offerable (Some r) z = is_writable r && fits_row r z
+offerable None z = false
 
 -- document 01, number 1: "an offer that no Type 3 could leave under these sheets"
-unfoldable pub sound_offer : List ℤ → List ℤ → Offer → Bool
-sound_offer bench maker Nothing = true
-sound_offer bench maker (Held i z) = offerable (entry_in bench maker i) z
+unfoldable pub sound_offer : List ℤ → List ℤ → Option Offer → Bool
+sound_offer bench maker None = true
+sound_offer bench maker (Some o) = offerable (entry_in bench maker o.identifier) o.value
 
 -- neither sheet has a row for `]`
 abbrev pub no_scan_row : List ℤ → List ℤ → Bool

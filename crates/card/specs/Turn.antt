@@ -1,21 +1,19 @@
 -- What a word does to a card, and to an instrument: a card with its values.
 use Rattle.std.specs.Prelude.{List, [], ℕ, ℤ, set}
 use Rattle.wire.specs.Word.{travelling}
-use Rattle.message.specs.declared.Parsed.{Parsed}
-use Rattle.message.specs.declared.Parsed.TheVariants.{Heard, Unheard}
 use Rattle.hearing.specs.declared.Pending.{Pending}
 use Rattle.hearing.specs.Hearing.{hear}
 use Rattle.reply.specs.Reply.{spell_answer}
 use Rattle.act.specs.declared.Setup.{Setup}
-use Rattle.act.specs.declared.Offer.{Offer}
 use Rattle.card.specs.declared.Card.{Card}
-use Rattle.act.specs.declared.Said.{Said}
-use Rattle.act.specs.declared.Said.TheVariants.{Silence, Reply}
-use Rattle.act.specs.declared.Store.{Store}
-use Rattle.act.specs.declared.Store.TheVariants.{Keep, Put}
 use Rattle.act.specs.declared.Effect.{Effect}
 use Rattle.act.specs.Act.{no_effect, act}
 use Rattle.card.specs.Run.{Reaction, Played, playing}
+use Rattle.std.specs.Prelude.{None, Option, Some}
+use Rattle.act.specs.declared.Offer.{Offer}
+use Rattle.act.specs.declared.Store.{Store}
+use Rattle.message.specs.declared.Message.{Message}
+use Rattle.reply.specs.declared.Answer.{Answer}
 
 -- ---- one word
 
@@ -23,20 +21,20 @@ use Rattle.card.specs.Run.{Reaction, Played, playing}
 pub record Turn : Type 0 where
   pub card : Card
   pub reply : List ℕ
-  pub store : Store
+  pub store : Option Store
 
 -- the reply as it travels; silence has no bytes
-abbrev pub reply_of : Said → List ℕ
-reply_of Silence = []
-reply_of (Reply a) = travelling (spell_answer a)
+abbrev pub reply_of : Option Answer → List ℕ
+reply_of None = []
+reply_of (Some a) = travelling (spell_answer a)
 
 -- document 01: "Anything not well formed is unheard: no answer, no effect"
-unfoldable pub effect_of : List ℤ → List ℤ → Setup → Offer → List ℤ → Parsed → Effect
-effect_of bench maker s o values (Heard m) = act bench maker s o values m
-effect_of bench maker s o values Unheard = no_effect o
+unfoldable pub effect_of : List ℤ → List ℤ → Setup → Option Offer → List ℤ → Option Message → Effect
+effect_of bench maker s o values (Some m) = act bench maker s o values m
+effect_of bench maker s o values None = no_effect o
 
 -- the card with another open message and offer
-abbrev pub with_both : Card → Pending → Offer → Card
+abbrev pub with_both : Card → Pending → Option Offer → Card
 with_both c p o = record { setup = c.setup; pending = p; offer = o }
 
 unfoldable pub turned : Card → Pending → Effect → Turn
@@ -48,9 +46,9 @@ turn bench maker c values w =
     turned c (hear c.pending w).pending (effect_of bench maker c.setup c.offer values (hear c.pending w).message)
 
 -- the values after a store
-unfoldable pub stored : List ℤ → Store → List ℤ
-stored values Keep = values
-stored values (Put i z) = set values i z
+unfoldable pub stored : List ℤ → Option Store → List ℤ
+stored values None = values
+stored values (Some s) = set values s.place s.value
 
 -- ---- a run
 

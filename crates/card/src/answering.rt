@@ -1,11 +1,10 @@
 // What a closed message leads to, decided, then said, then done; and the words of a run.
-ghost use Rattle.std.specs.Prelude.{◌≡◌, true, false, pos, length, get_or, ◌≤◌};
+ghost use Rattle.std.specs.Prelude.{◌≡◌, pos, length, get_or, ◌≤◌};
 ghost use Rattle.refusal.specs.Refusal.{outcome_of};
 ghost use Rattle.refusal.specs.Call.{call_of, place_call};
 ghost use Rattle.reply.specs.Reply.{longest_reply};
 ghost use Rattle.hearing.specs.Hearing.{open_of};
-ghost use Rattle.sheet.specs.Sheet.{sound_sheet};
-ghost use Rattle.sheet.specs.Inner.{index_of, entry_at};
+ghost use Rattle.sheet.specs.Inner.{entries};
 ghost use Rattle.act.specs.Cause.{why_of};
 ghost use Rattle.act.specs.Act.{causes_with};
 ghost use Rattle.act.specs.Inner.{on_scan, on_row};
@@ -14,117 +13,98 @@ ghost use Rattle.card.specs.Cause.{why_closed};
 ghost use Rattle.card.specs.Inner.{settles, is_scan, effect_by, why_by};
 ghost use Rattle.card.specs.Calls.{step_after, answered, run_after, ended};
 
-use crate::{Card, Ran, RunAnswer, StepAnswer, Stepped};
+use crate::tested::Tested;
+use crate::{Card, Ran, Replied, Stepped, Took};
 use act::causes::Cause;
-use act::{Effect, Offer, Said, Setup, Store};
-use hearing::{Halt, Pending};
-use message::Parsed;
-use refusal::{Refusal, Written};
+use act::{Effect, Offer, Setup, Store};
+use hearing::Pending;
+use message::Message;
+use refusal::Refusal;
+use reply::{Answer, SCAN};
+use sheet::Index;
 
 // What is said into the buffer from a place on; silence is nothing.
-fn say(said: Said, out: &mut [u8], at: usize) -> Written
+#[tactic(auto, using(crate::proofs::Settled::silence_short, crate::proofs::Settled::silence_placed))]
+fn say(said: Option<Answer>, out: &mut [u8], at: usize) -> Result<usize, Refusal>
     ensures { call_of result out.new ≡ place_call (reply_of said) at out.old }
 {
-    let Said::Reply(answer) = said else {
-        if out.len() < at {
-            return Written::Refused(Refusal::RoomTooShort);
-        }
-        return Written::Wrote(0);
-    };
-    reply::place(answer, out, at)
+    match said {
+        Some(answer) => reply::place(answer, out, at),
+        None if out.len() < at => Err(Refusal::RoomTooShort),
+        None => Ok(0),
+    }
 }
 
 // A message on `]`.
-pub fn is_scan(parsed: Parsed) -> bool
-    ensures { result ≡ is_scan parsed }
+#[tactic(auto, unfolding(crate::specs::Inner::is_scan))]
+pub fn is_scan(message: Option<Message>) -> bool
+    ensures { result ≡ is_scan message }
 {
-    let Parsed::Heard(message) = parsed else {
-        return false;
-    };
-    message.identifier == reply::SCAN
+    message.is_some_and(|message| message.identifier == SCAN)
 }
 
-// What a closed message on `]` leads to, at a card with this setup and offer. `places` is an index of the two sheets.
+// What a closed message on `]` leads to, at a card with this setup and offer. Each caller chooses between this and `effect_of`: one function
+// for the choice was tried, and costs a run 6 %.
+#[tactic(auto, unfolding(crate::specs::Inner::effect_by))]
 pub fn scan_effect<'a>(
     setup: Setup,
-    offer: Offer,
-    bench: &'a [i32],
-    maker: &'a [i32],
-    places: &[usize],
+    offer: Option<Offer>,
+    index: &Index<'a>,
     values: &[i32],
-    parsed: Parsed,
+    message: Option<Message>,
 ) -> Effect
-    ensures { result ≡ effect_by (on_scan setup offer (entry_at bench.now maker.now places.now) (λ i. get_or values.now i (pos 0))) offer parsed }
+    ensures { result ≡ effect_by (on_scan setup offer (entries index.now) (λ i. get_or values.now i (pos 0))) offer message }
 {
-    let Parsed::Heard(message) = parsed else {
+    let Some(message) = message else {
         return act::no_effect(offer);
     };
-    act::scan::on_scan(setup, offer, bench, maker, places, values, message)
+    act::scan::on_scan(setup, offer, index, values, message)
 }
 
 // What any other leads to.
+#[tactic(auto, unfolding(crate::specs::Inner::effect_by))]
 pub fn effect_of<'a>(
     setup: Setup,
-    offer: Offer,
-    bench: &'a [i32],
-    maker: &'a [i32],
-    places: &[usize],
+    offer: Option<Offer>,
+    index: &Index<'a>,
     values: &[i32],
-    parsed: Parsed,
+    message: Option<Message>,
 ) -> Effect
-    ensures { result ≡ effect_by (on_row setup offer (entry_at bench.now maker.now places.now) (λ i. get_or values.now i (pos 0))) offer parsed }
+    ensures { result ≡ effect_by (on_row setup offer (entries index.now) (λ i. get_or values.now i (pos 0))) offer message }
 {
-    let Parsed::Heard(message) = parsed else {
+    let Some(message) = message else {
         return act::no_effect(offer);
     };
-    act::on_row(setup, offer, bench, maker, places, values, message)
+    act::on_row(setup, offer, index, values, message)
 }
 
-// Why a closed message isn't accepted, at a card with this setup and offer; `pending` holds its characters. `places` is an index of the
-// two sheets.
+// Why a closed message isn't accepted, at a card with this setup and offer; `pending` holds its characters.
+#[tactic(auto, unfolding(crate::specs::Inner::why_by))]
 pub fn cause_by<'a>(
     setup: Setup,
-    offer: Offer,
-    bench: &'a [i32],
-    maker: &'a [i32],
-    places: &[usize],
+    offer: Option<Offer>,
+    index: &Index<'a>,
     values: &[i32],
-    pending: Pending,
-    parsed: Parsed,
-) -> Cause
-    ensures { why_of result ≡ why_by (causes_with setup offer (entry_at bench.now maker.now places.now) (λ i. get_or values.now i (pos 0))) (open_of pending) parsed }
+    pending: &Pending,
+    message: Option<Message>,
+) -> Option<Cause>
+    ensures { why_of result ≡ why_by (causes_with setup offer (entries index.now) (λ i. get_or values.now i (pos 0))) (open_of pending.now) message }
 {
-    let Parsed::Heard(message) = parsed else {
-        return Cause::NotWellFormed(pending.position());
+    let Some(message) = message else {
+        return Some(Cause::NotWellFormed(pending.position()));
     };
-    if message.identifier == reply::SCAN {
+    if message.identifier == SCAN {
         return act::causes::scan_cause(setup, message);
     }
-    act::causes::row_cause(setup, offer, bench, maker, places, values, message)
+    act::causes::row_cause(setup, offer, index, values, message)
 }
 
-// The same with the index of two sound sheets.
-fn cause_of<'a>(
-    setup: Setup,
-    offer: Offer,
-    bench: &'a [i32],
-    maker: &'a [i32],
-    places: &[usize],
-    values: &[i32],
-    pending: Pending,
-    parsed: Parsed,
-) -> Cause
-    requires { (sound_sheet bench.now ≡ true) × (sound_sheet maker.now ≡ true) × (places.now ≡ index_of bench.now maker.now) }
-    ensures { why_of result ≡ why_closed bench.now maker.now setup offer values.now (open_of pending) parsed }
-{
-    cause_by(setup, offer, bench, maker, places, values, pending, parsed)
-}
-
-// The one write to the values.
-fn keep(values: &mut [i32], store: Store)
+// The one write to the values. By index: `get_mut` of a slice promises only the length.
+#[tactic(auto, unfolding(crate::specs::Turn::stored))]
+fn keep(values: &mut [i32], store: Option<Store>)
     ensures { values.new ≡ stored values.old store }
 {
-    let Store::Put { place, value } = store else {
+    let Some(Store { place, value }) = store else {
         return;
     };
     let at = place as usize;
@@ -134,118 +114,112 @@ fn keep(values: &mut [i32], store: Store)
 }
 
 // An effect: said from a place on and, where that fits, stored.
-pub fn settle(effect: Effect, values: &mut [i32], out: &mut [u8], at: usize) -> Written
+#[tactic(auto, unfolding(crate::specs::Inner::settles, refusal::specs::Call::place_call))]
+pub fn settle(
+    effect: Effect,
+    values: &mut [i32],
+    out: &mut [u8],
+    at: usize,
+) -> Result<usize, Refusal>
     ensures { record { outcome = outcome_of result; values = values.new; buffer = out.new } ≡ settles effect values.old at out.old }
 {
-    let said = effect.said;
-    let Written::Wrote(n) = say(said, out, at) else {
-        return Written::Refused(Refusal::RoomTooShort);
-    };
-    let store = effect.store;
-    keep(values, store);
-    Written::Wrote(n)
+    let n = say(effect.said, out, at)?;
+    keep(values, effect.store);
+    Ok(n)
 }
 
 // A card whose message was closed, what that message leads to, and why; `pending` holds its characters. There is room for any reply.
 pub(crate) fn answer<'a>(
     card: Card,
-    bench: &'a [i32],
-    maker: &'a [i32],
+    tested: &Tested<'a>,
     values: &mut [i32],
-    pending: Pending,
-    parsed: Parsed,
+    pending: &Pending,
+    message: Option<Message>,
     out: &mut [u8],
 ) -> Stepped
-    requires { (sound_sheet bench.now ≡ true) × (sound_sheet maker.now ≡ true) × (longest_reply ≤ length out.old) }
-    ensures { step_after result values.new out.new ≡ answered (turned card card.pending (effect_of bench.now maker.now card.setup card.offer values.old parsed)) (why_closed bench.now maker.now card.setup card.offer values.old (open_of pending) parsed) values.old out.old }
+    requires { longest_reply ≤ length out.old }
+    ensures { step_after result values.new out.new ≡ answered (turned card card.pending (effect_of tested.now.sheets.bench.now tested.now.sheets.maker.now card.setup card.offer values.old message)) (why_closed tested.now.sheets.bench.now tested.now.sheets.maker.now card.setup card.offer values.old (open_of pending.now) message) values.old out.old }
 {
-    let setup = card.setup;
-    let held = card.offer;
-    let places = sheet::index(bench, maker);
-    let cause = cause_of(setup, held, bench, maker, &places, values, pending, parsed);
-    let effect = if is_scan(parsed) {
-        scan_effect(setup, held, bench, maker, &places, values, parsed)
-    } else {
-        effect_of(setup, held, bench, maker, &places, values, parsed)
+    let Card { setup, offer, .. } = card;
+    let places = tested.sheets.places();
+    let index = Index {
+        sheets: tested.sheets,
+        places: &places,
     };
-    let offer = effect.offer;
-    let card = card.hold(offer);
-    match settle(effect, values, out, 0) {
-        Written::Refused(refusal) => {
-            let answer = StepAnswer::Refused(refusal);
-            Stepped { card, answer }
-        }
-        Written::Wrote(bytes) => {
-            let answer = StepAnswer::Replied { bytes, cause };
-            Stepped { card, answer }
-        }
+    let cause = cause_by(setup, offer, &index, values, pending, message);
+    let effect = if is_scan(message) {
+        scan_effect(setup, offer, &index, values, message)
+    } else {
+        effect_of(setup, offer, &index, values, message)
+    };
+    let settled = settle(effect, values, out, 0);
+    Stepped {
+        card: card.hold(effect.offer),
+        answer: settled.map(|bytes| Replied { bytes, cause }),
     }
 }
 
-// Where a run has come.
+// Where a run has come: the card, so many words taken, and so many bytes written.
 pub fn so_far(
     setup: Setup,
-    offer: Offer,
-    chars: [u8; hearing::MOST],
-    halt: Halt,
+    offer: Option<Offer>,
+    pending: Pending,
+    words: usize,
     bytes: usize,
 ) -> Ran
-    ensures { result ≡ record { card = record { setup = setup; pending = record { chars = chars; len = halt.len }; offer = offer }; answer = RunAnswer.Took halt.at bytes } }
+    ensures { result ≡ record { card = record { setup = setup; pending = pending; offer = offer }; answer = Ok (record { words = words; bytes = bytes }) } }
 {
-    let pending = Pending {
-        chars,
-        len: halt.len,
-    };
-    let card = Card {
-        setup,
-        pending,
-        offer,
-    };
-    let answer = RunAnswer::Took {
-        words: halt.at,
-        bytes,
-    };
-    Ran { card, answer }
+    Ran {
+        card: Card {
+            setup,
+            pending,
+            offer,
+        },
+        answer: Ok(Took { words, bytes }),
+    }
 }
 
 // The words of a run that passed. They are taken up to one that closes a message, and that one is answered. The sheets are indexed
 // once, where there is such a word.
 pub(crate) fn take_all<'a>(
     card: Card,
-    bench: &'a [i32],
-    maker: &'a [i32],
+    tested: &Tested<'a>,
     values: &mut [i32],
     words: &[u16],
     out: &mut [u8],
 ) -> Ran
-    requires { (sound_sheet bench.now ≡ true) × (sound_sheet maker.now ≡ true) }
-    ensures { run_after result values.new out.new ≡ ended (play bench.now maker.now card values.old (length out.old) words.now) out.old }
+    ensures { run_after result values.new out.new ≡ ended (play tested.now.sheets.bench.now tested.now.sheets.maker.now card values.old (length out.old) words.now) out.old }
 {
-    let setup = card.setup;
-    let mut offer = card.offer;
-    let pending = card.pending;
-    let mut chars = pending.chars;
-    let mut halt = hearing::to_close(&mut chars, pending.len, words, 0);
-    if words.len() <= halt.at {
-        return so_far(setup, offer, chars, halt, 0);
+    let Card {
+        setup,
+        mut pending,
+        mut offer,
+    } = card;
+    let mut taken = pending.to_close(words, 0);
+    if words.len() <= taken {
+        return so_far(setup, offer, pending, taken, 0);
     }
-    let index = sheet::index(bench, maker);
-    let places = &index[..];
+    let places = tested.sheets.places();
+    let index = Index {
+        sheets: tested.sheets,
+        places: &places,
+    };
     let mut at = 0;
-    while halt.at < words.len() {
-        let parsed = hearing::closed(&chars, halt.len);
-        let effect = if is_scan(parsed) {
-            scan_effect(setup, offer, bench, maker, places, values, parsed)
+    // No `for`: `to_close` goes on from one closing word to the next.
+    while taken < words.len() {
+        let message = pending.close();
+        let effect = if is_scan(message) {
+            scan_effect(setup, offer, &index, values, message)
         } else {
-            effect_of(setup, offer, bench, maker, places, values, parsed)
+            effect_of(setup, offer, &index, values, message)
         };
-        let Written::Wrote(n) = settle(effect, values, out, at) else {
-            return so_far(setup, offer, chars, halt, at);
+        let Ok(n) = settle(effect, values, out, at) else {
+            return so_far(setup, offer, pending, taken, at);
         };
         offer = effect.offer;
-        chars = [0u8; hearing::MOST];
-        halt = hearing::to_close(&mut chars, 0, words, halt.at + 1);
+        pending = Pending::new();
+        taken = pending.to_close(words, taken + 1);
         at += n;
     }
-    so_far(setup, offer, chars, halt, at)
+    so_far(setup, offer, pending, taken, at)
 }

@@ -34,7 +34,6 @@
 
 ghost use Rattle.std.specs.Prelude.{◌≤◌, IfOk, length};
 
-use player::Outcome;
 use std::io;
 use std::io::Read;
 
@@ -68,36 +67,37 @@ fn read_full(input: &mut impl Read, room: &mut [u8]) -> io::Result<usize>
     Ok(done)
 }
 
-// Plays the case and writes its line; answers 1 where it differs.
-fn show(rt: &impl Print, line: &[u8]) -> io::Result<u64> {
-    rt.write_all(reader::field(line, 0))?;
-    let outcome = cards::play(line);
-    match outcome {
-        Outcome::Same => {
+// Plays the case and writes its line; answers whether it differs.
+fn show(rt: &impl Print, line: &[u8]) -> io::Result<bool> {
+    rt.write_all(reader::field(line).0)?;
+    match cards::play(line) {
+        Ok(()) => {
             println!(rt; " ok")?;
-            Ok(0)
+            Ok(false)
         }
-        Outcome::Differs(k) => {
+        Err(k) => {
             println!(rt; " differs at {k}")?;
-            Ok(1)
+            Ok(true)
         }
     }
 }
 
-// All the lines.
+// All the lines; the empty line is no case.
 fn show_all(rt: &impl Print, text: &[u8]) -> io::Result<Count> {
-    let mut cases: u64 = 0;
-    let mut differ: u64 = 0;
-    let mut at = 0;
-    while at < text.len() {
-        let end = reader::stop(text, at, b'\n');
-        if at < end {
-            cases = std::num::wrapping_add_u64(cases, 1);
-            differ = std::num::wrapping_add_u64(differ, show(rt, &text[at..end])?);
+    let mut count = Count {
+        cases: 0,
+        differ: 0,
+    };
+    for line in text.split(|c| *c == b'\n') {
+        if line.is_empty() {
+            continue;
         }
-        at = end + 1;
+        count.cases = count.cases.wrapping_add(1);
+        if show(rt, line)? {
+            count.differ = count.differ.wrapping_add(1);
+        }
     }
-    Ok(Count { cases, differ })
+    Ok(count)
 }
 
 fn main(rt: HostRuntime) -> io::Result<()> {

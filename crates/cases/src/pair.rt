@@ -1,9 +1,10 @@
 // A case on three cards that share a pair: its messages at once and word by word, and each answer compared.
-use crate::player::{MESSAGES, Outcome, REPLIES, WORDS, ended, is_answer};
-use crate::reader::{change, field, spells, words_of};
+use crate::player::{REPLIES, is_answer, messages};
+use crate::reader::{change, field, spells};
 use act::Setup;
-use card::RunAnswer;
+use card::Took;
 use refusal::Refusal;
+use sheet::Sheets;
 
 // The numbers of the three rows, and the values of the three cards.
 const NUMBERS: usize = 3 * row::LENGTH;
@@ -12,29 +13,23 @@ const VALUES: usize = 3 * sheet::CODES;
 
 // ---- the cards at the start
 
-// Number `k` of a fresh card's row: no message open and no offer.
-fn number_of(setup: Setup, k: usize) -> i32 {
-    let scan = setup.scan;
-    let byte = match k {
-        0 => setup.letter,
-        1 => setup.address,
-        16 => setup.count,
-        17..=21 => scan[k - 17],
-        22 => setup.revision,
-        _ => 0,
-    };
-    row::wide(byte)
+// A fresh card's row: no message open and no offer.
+fn row_of(setup: Setup) -> [i32; row::LENGTH] {
+    let [a, b, c, d, e] = setup.scan.map(i32::from);
+    let letter = i32::from(setup.letter);
+    let address = i32::from(setup.address);
+    let count = i32::from(setup.count);
+    let revision = i32::from(setup.revision);
+    [
+        letter, address, 0, 0, 0, 0, 0, 0, 0, 0, 0, 0, 0, 0, 0, 0, count, a, b, c, d, e, revision,
+    ]
 }
 
 // The rows, one behind the other.
-fn rows_of(first: Setup, second: Setup, third: Setup) -> [i32; NUMBERS] {
+fn rows_of(setups: [Setup; 3]) -> [i32; NUMBERS] {
     let mut numbers = [0; NUMBERS];
-    let mut k = 0;
-    while k < row::LENGTH {
-        numbers[k] = number_of(first, k);
-        numbers[row::LENGTH + k] = number_of(second, k);
-        numbers[2 * row::LENGTH + k] = number_of(third, k);
-        k += 1;
+    for (row, setup) in numbers.chunks_exact_mut(row::LENGTH).zip(setups) {
+        row.copy_from_slice(&row_of(setup));
     }
     numbers
 }
@@ -42,10 +37,8 @@ fn rows_of(first: Setup, second: Setup, third: Setup) -> [i32; NUMBERS] {
 // The same values for each card.
 fn thrice(values: [i32; sheet::CODES]) -> [i32; VALUES] {
     let mut all = [0; VALUES];
-    let mut i = 0;
-    while i < VALUES {
-        all[i] = values[i % sheet::CODES];
-        i += 1;
+    for own in all.chunks_exact_mut(sheet::CODES) {
+        own.copy_from_slice(&values);
     }
     all
 }
@@ -54,182 +47,91 @@ fn thrice(values: [i32; sheet::CODES]) -> [i32; VALUES] {
 
 // Whether the text is `!` and the number of this refusal.
 fn is_refused(refusal: Refusal, text: &[u8]) -> bool {
-    if text.len() == 0 {
-        return false;
+    match text {
+        [b'!', digits @ ..] => spells(digits, u8::from(refusal)),
+        _ => false,
     }
-    if text[0] != b'!' {
-        return false;
-    }
-    spells(&text[1..], refusal::number(refusal))
 }
 
 // Whether all of so many words were taken and the bytes are what was expected, or the refusal is.
-fn is_expected(ran: RunAnswer, count: usize, bytes: &[u8], answer: &[u8]) -> bool {
+fn is_expected(ran: Result<Took, Refusal>, count: usize, bytes: &[u8], answer: &[u8]) -> bool {
     match ran {
-        RunAnswer::Refused(refusal) => is_refused(refusal, answer),
-        RunAnswer::Took { words, bytes: said } => {
-            (words == count) & is_answer(bytes, said, answer)
-        }
+        Err(refusal) => is_refused(refusal, answer),
+        Ok(took) => took.words == count && is_answer(bytes, took.bytes, answer),
     }
-}
-
-// A run of one word, whose reply goes behind what was said.
-fn one<'a>(
-    numbers: &mut [i32],
-    bench: &'a [i32],
-    maker: &'a [i32],
-    values: &mut [i32],
-    word: u16,
-    said: usize,
-    out: &mut [u8],
-) -> RunAnswer {
-    if out.len() < said {
-        return RunAnswer::Took { words: 0, bytes: 0 };
-    }
-    let words = [word];
-    bus::run(numbers, bench, maker, values, &words, &mut out[said..])
 }
 
 // The words one by one, to the first that is refused or not taken, as if they were one run.
-fn each<'a>(
+fn each(
     numbers: &mut [i32],
-    bench: &'a [i32],
-    maker: &'a [i32],
+    sheets: &Sheets<'_>,
     values: &mut [i32],
     words: &[u16],
     out: &mut [u8],
-) -> RunAnswer {
-    let mut said = 0;
-    let mut i = 0;
-    while i < words.len() {
-        let ran = one(numbers, bench, maker, values, words[i], said, out);
-        let RunAnswer::Took {
-            words: count,
-            bytes,
-        } = ran
-        else {
-            return ran;
+) -> Result<Took, Refusal> {
+    let mut took = Took { words: 0, bytes: 0 };
+    for word in words {
+        let Some(room) = out.get_mut(took.bytes..) else {
+            break;
         };
-        if count == 0 {
+        let one = bus::run(numbers, sheets, values, &[*word], room)?;
+        if one.words == 0 {
             break;
         }
-        said = std::num::wrapping_add_usize(said, bytes);
-        i += 1;
+        took = Took {
+            words: took.words.saturating_add(1),
+            bytes: took.bytes.saturating_add(one.bytes),
+        };
     }
-    RunAnswer::Took {
-        words: i,
-        bytes: said,
-    }
+    Ok(took)
 }
 
 // A message at once; answers whether the cards said what was expected.
-fn by_run<'a>(
+fn by_run(
     numbers: &mut [i32],
-    bench: &'a [i32],
-    maker: &'a [i32],
+    sheets: &Sheets<'_>,
     values: &mut [i32],
     words: &[u16],
     answer: &[u8],
 ) -> bool {
     let mut out = [0u8; REPLIES];
-    let ran = bus::run(numbers, bench, maker, values, words, &mut out);
+    let ran = bus::run(numbers, sheets, values, words, &mut out);
     is_expected(ran, words.len(), &out, answer)
 }
 
 // A message word by word.
-fn by_words<'a>(
+fn by_words(
     numbers: &mut [i32],
-    bench: &'a [i32],
-    maker: &'a [i32],
+    sheets: &Sheets<'_>,
     values: &mut [i32],
     words: &[u16],
     answer: &[u8],
 ) -> bool {
     let mut out = [0u8; REPLIES];
-    let ran = each(numbers, bench, maker, values, words, &mut out);
+    let ran = each(numbers, sheets, values, words, &mut out);
     is_expected(ran, words.len(), &out, answer)
 }
 
-// A message, at once or word by word.
-fn message<'a>(
-    at_once: bool,
-    numbers: &mut [i32],
-    bench: &'a [i32],
-    maker: &'a [i32],
-    values: &mut [i32],
-    sent: &[u8],
-    answer: &[u8],
-) -> bool {
-    let mut words = [0u16; WORDS];
-    let n = words_of(sent, &mut words);
-    if n == WORDS {
-        return false;
-    }
-    if at_once {
-        by_run(numbers, bench, maker, values, &words[..n], answer)
-    } else {
-        by_words(numbers, bench, maker, values, &words[..n], answer)
-    }
-}
-
-// The messages of a case, one after the other, to the end of the line.
-fn messages<'a>(
-    at_once: bool,
-    numbers: &mut [i32],
-    bench: &'a [i32],
-    maker: &'a [i32],
-    values: &mut [i32],
-    line: &[u8],
-) -> Outcome {
-    let mut k: usize = 0;
-    while k < MESSAGES {
-        let sent = field(line, 3 + 2 * k);
-        if sent.len() == 0 {
-            break;
-        }
-        let answer = field(line, 4 + 2 * k);
-        if !message(at_once, numbers, bench, maker, values, sent, answer) {
-            return Outcome::Differs(k + 1);
-        }
-        k += 1;
-    }
-    ended(line, k)
-}
-
-// A case one way, from these rows and values.
-fn played<'a>(
-    at_once: bool,
-    rows: [i32; NUMBERS],
-    bench: &'a [i32],
-    maker: &'a [i32],
-    held: [i32; VALUES],
-    line: &[u8],
-) -> Outcome {
-    let mut numbers = rows;
-    let mut values = held;
-    messages(at_once, &mut numbers, bench, maker, &mut values, line)
-}
-
-// A case on three cards, both ways; they have the same values at the start.
-pub(crate) fn together<'a>(
-    first: Setup,
-    second: Setup,
-    third: Setup,
-    bench: &'a [i32],
-    maker: &'a [i32],
+// A case on three cards, both ways; they have the same values at the start. `line` begins with the change.
+pub(crate) fn together(
+    setups: [Setup; 3],
+    sheets: &Sheets<'_>,
     values: [i32; 128],
     line: &[u8],
-) -> Outcome {
-    let text = field(line, 2);
-    let mut changed = values;
-    if !change(&mut changed, text) {
-        return Outcome::Differs(0);
+) -> Result<(), usize> {
+    let (text, line) = field(line);
+    let mut values = values;
+    if !change(&mut values, text) {
+        return Err(0);
     }
-    let rows = rows_of(first, second, third);
-    let held = thrice(changed);
-    let outcome = played(true, rows, bench, maker, held, line);
-    let Outcome::Same = outcome else {
-        return outcome;
-    };
-    played(false, rows, bench, maker, held, line)
+    let mut numbers = rows_of(setups);
+    let mut held = thrice(values);
+    messages(line, |words, answer| {
+        by_run(&mut numbers, sheets, &mut held, words, answer)
+    })?;
+    let mut numbers = rows_of(setups);
+    let mut held = thrice(values);
+    messages(line, |words, answer| {
+        by_words(&mut numbers, sheets, &mut held, words, answer)
+    })
 }

@@ -1,11 +1,10 @@
 // A case on a card: its messages at once and word by word, and each answer compared.
-ghost use Rattle.std.specs.Prelude.{◌≤◌};
-
-use crate::reader::{change, field, spells, start, stop, words_of};
+use crate::reader::{change, field, spells, split_once, words_of};
+use act::Setup;
 use act::causes::Cause;
-use act::{Offer, Setup};
-use card::{Card, RunAnswer, StepAnswer};
+use card::{Card, Took};
 use hearing::Pending;
+use sheet::Sheets;
 
 // The words of a message, and the bytes of the replies to it: two of the longest, since a word is taken only with room for one.
 pub(crate) const WORDS: usize = 64;
@@ -15,283 +14,168 @@ pub(crate) const REPLIES: usize = 2 * reply::LONGEST_REPLY;
 // The most messages that a case has.
 pub(crate) const MESSAGES: usize = 12;
 
+// How many bytes a card has said to some words, and the cause that the last of them gave.
 #[derive(Clone, Copy)]
-pub(crate) enum Outcome {
-    Same,
-    Differs(usize),
-}
-
-// The card after a message, and whether it said what was expected.
-#[derive(Clone, Copy)]
-struct Played {
-    card: Card,
-    same: bool,
-}
-
-// The card after some words, how many bytes it has said, and the cause that the last word gave; `fine` where no call was refused.
-#[derive(Clone, Copy)]
-struct Saying {
-    card: Card,
-    said: usize,
-    cause: Cause,
-    fine: bool,
+struct Said {
+    bytes: usize,
+    cause: Option<Cause>,
 }
 
 // Whether the first bytes are these characters in good parity.
 fn starts(bytes: &[u8], characters: &[u8]) -> bool {
-    let mut i = 0;
-    while i < characters.len() {
-        if bytes.len() <= i {
-            return false;
-        }
-        if bytes[i] != wire::with_parity(characters[i]) {
-            return false;
-        }
-        i += 1;
-    }
-    true
+    characters.len() <= bytes.len()
+        && bytes
+            .iter()
+            .zip(characters)
+            .all(|(byte, c)| *byte == wire::with_parity(*c))
 }
 
 // Whether the `said` first bytes are what the answer has before its cause.
 pub(crate) fn is_answer(bytes: &[u8], said: usize, answer: &[u8]) -> bool {
-    let end = stop(answer, 0, b':');
-    if end == 0 {
-        return false;
-    }
-    if answer[0] == b'-' {
-        return said == 0;
-    }
-    if said == end {
-        starts(bytes, &answer[0..end])
-    } else {
-        false
+    let (text, _) = split_once(answer, b':');
+    match text {
+        [] => false,
+        [b'-', ..] => said == 0,
+        _ => said == text.len() && starts(bytes, text),
     }
 }
 
 // Whether the text is the code of this cause, or its code, a dot and its position.
-fn is_cause(cause: Cause, text: &[u8]) -> bool {
-    let dot = stop(text, 0, b'.');
-    if !spells(&text[0..dot], act::causes::cause_code(cause)) {
-        return false;
-    }
+fn is_cause(cause: Option<Cause>, text: &[u8]) -> bool {
+    let (code, dotted) = split_once(text, b'.');
     let position = act::causes::cause_position(cause);
-    if dot == text.len() {
-        return position == 0;
-    }
-    spells(&text[dot + 1..], position)
+    spells(code, act::causes::cause_code(cause))
+        && match dotted {
+            Some(digits) => spells(digits, position),
+            None => position == 0,
+        }
 }
 
 // Whether the cause is the one that the answer ends in, if it ends in one.
-fn is_answered(cause: Cause, answer: &[u8]) -> bool {
-    let end = stop(answer, 0, b':');
-    if end == answer.len() {
-        return true;
+fn is_answered(cause: Option<Cause>, answer: &[u8]) -> bool {
+    match split_once(answer, b':') {
+        (_, Some(text)) => is_cause(cause, text),
+        (_, None) => true,
     }
-    is_cause(cause, &answer[end + 1..])
 }
 
-// A message at once.
-fn by_run<'a>(
-    card: Card,
-    bench: &'a [i32],
-    maker: &'a [i32],
+// A message at once; answers whether the card said what was expected.
+fn by_run(
+    card: &mut Card,
+    sheets: &Sheets<'_>,
     values: &mut [i32],
     words: &[u16],
     answer: &[u8],
-) -> Played {
+) -> bool {
     let mut out = [0u8; REPLIES];
-    let ran = card::run(card, bench, maker, values, words, &mut out);
-    let card = ran.card;
-    let taken = ran.answer;
-    let RunAnswer::Took {
-        words: count,
-        bytes: said,
-    } = taken
-    else {
-        return Played { card, same: false };
-    };
-    let same = (count == words.len()) & is_answer(&out, said, answer);
-    Played { card, same }
-}
-
-// So many bytes more were said, with this cause.
-fn further(card: Card, said: usize, n: usize, cause: Cause, fine: bool) -> Saying {
-    if n <= REPLIES {
-        if said <= REPLIES {
-            let said = said + n;
-            return Saying {
-                card,
-                said,
-                cause,
-                fine,
-            };
-        }
-    }
-    Saying {
-        card,
-        said,
-        cause,
-        fine: false,
+    let ran = card::run(*card, sheets, values, words, &mut out);
+    *card = ran.card;
+    match ran.answer {
+        Ok(took) => took.words == words.len() && is_answer(&out, took.bytes, answer),
+        Err(_) => false,
     }
 }
 
-// One word, whose reply goes behind what was said.
-fn one<'a>(
-    saying: Saying,
-    bench: &'a [i32],
-    maker: &'a [i32],
-    values: &mut [i32],
-    word: u16,
-    out: &mut [u8],
-) -> Saying {
-    let before = saying.card;
-    let said = saying.said;
-    if out.len() < said {
-        return saying;
-    }
-    let stepped = card::step(before, bench, maker, values, word, &mut out[said..]);
-    let card = stepped.card;
-    let answer = stepped.answer;
-    let StepAnswer::Replied { bytes: n, cause } = answer else {
-        return Saying {
-            card,
-            said,
-            cause: Cause::None,
-            fine: false,
-        };
-    };
-    further(card, said, n, cause, saying.fine)
-}
-
-// The words one by one.
-fn each<'a>(
-    card: Card,
-    bench: &'a [i32],
-    maker: &'a [i32],
+// The words one by one; nothing where one is refused.
+fn each(
+    card: &mut Card,
+    sheets: &Sheets<'_>,
     values: &mut [i32],
     words: &[u16],
     out: &mut [u8],
-) -> Saying {
-    let mut saying = Saying {
-        card,
-        said: 0,
-        cause: Cause::None,
-        fine: true,
+) -> Option<Said> {
+    let mut said = Said {
+        bytes: 0,
+        cause: None,
     };
-    let mut i = 0;
-    while i < words.len() {
-        saying = one(saying, bench, maker, values, words[i], out);
-        i += 1;
+    for word in words {
+        let stepped = card::step(*card, sheets, values, *word, out.get_mut(said.bytes..)?);
+        *card = stepped.card;
+        let replied = stepped.answer.ok()?;
+        said = Said {
+            bytes: said.bytes.checked_add(replied.bytes)?,
+            cause: replied.cause,
+        };
     }
-    saying
+    Some(said)
 }
 
 // A message word by word.
-fn by_steps<'a>(
-    card: Card,
-    bench: &'a [i32],
-    maker: &'a [i32],
+fn by_steps(
+    card: &mut Card,
+    sheets: &Sheets<'_>,
     values: &mut [i32],
     words: &[u16],
     answer: &[u8],
-) -> Played {
+) -> bool {
     let mut out = [0u8; REPLIES];
-    let saying = each(card, bench, maker, values, words, &mut out);
-    let card = saying.card;
-    let cause = saying.cause;
-    let same = saying.fine & is_answer(&out, saying.said, answer) & is_answered(cause, answer);
-    Played { card, same }
-}
-
-// A message, at once or word by word.
-fn message<'a>(
-    at_once: bool,
-    card: Card,
-    bench: &'a [i32],
-    maker: &'a [i32],
-    values: &mut [i32],
-    sent: &[u8],
-    answer: &[u8],
-) -> Played {
-    let mut words = [0u16; WORDS];
-    let n = words_of(sent, &mut words);
-    if n == WORDS {
-        return Played { card, same: false };
-    }
-    if at_once {
-        by_run(card, bench, maker, values, &words[..n], answer)
-    } else {
-        by_steps(card, bench, maker, values, &words[..n], answer)
+    match each(card, sheets, values, words, &mut out) {
+        Some(said) => is_answer(&out, said.bytes, answer) && is_answered(said.cause, answer),
+        None => false,
     }
 }
 
-// The outcome where so many messages were answered as expected: there is one, and none is left.
-pub(crate) fn ended(line: &[u8], k: usize) -> Outcome
-    requires { k ≤ 12 }
-{
-    if k == 0 {
-        return Outcome::Differs(0);
-    }
-    if start(line, 3 + 2 * k) < line.len() {
-        return Outcome::Differs(k + 1);
-    }
-    Outcome::Same
-}
-
-// The messages of a case, one after the other, to the end of the line.
-fn messages<'a>(
-    at_once: bool,
-    card: Card,
-    bench: &'a [i32],
-    maker: &'a [i32],
-    values: &mut [i32],
+// The messages of a case, one after the other, to the end of the line: `says` answers whether the words of one draw this answer. An error is the
+// first message whose answer is another, counted from 1, and 0 where there is none.
+pub(crate) fn messages<F: FnMut(&[u16], &[u8]) -> bool + Drop>(
     line: &[u8],
-) -> Outcome {
-    let mut held = card;
-    let mut k: usize = 0;
-    while k < MESSAGES {
-        let sent = field(line, 3 + 2 * k);
-        if sent.len() == 0 {
-            break;
+    mut says: F,
+) -> Result<(), usize>
+    requires { F.IsAlwaysCallable says }
+{
+    let mut rest = line;
+    for k in 0..MESSAGES {
+        let (sent, behind) = field(rest);
+        if sent.is_empty() {
+            return match (k, rest) {
+                (0, _) => Err(0),
+                (_, []) => Ok(()),
+                _ => Err(k + 1),
+            };
         }
-        let answer = field(line, 4 + 2 * k);
-        let played = message(at_once, held, bench, maker, values, sent, answer);
-        if !played.same {
-            return Outcome::Differs(k + 1);
+        let (answer, behind) = field(behind);
+        let mut words = [0u16; WORDS];
+        let n = words_of(sent, &mut words);
+        if n == WORDS || !says(&words[..n], answer) {
+            return Err(k + 1);
         }
-        held = played.card;
-        k += 1;
+        rest = behind;
     }
-    ended(line, k)
+    if rest.is_empty() {
+        Ok(())
+    } else {
+        Err(MESSAGES + 1)
+    }
 }
 
 fn fresh(setup: Setup) -> Card {
-    let pending = Pending::new();
-    let offer = Offer::Nothing;
     Card {
         setup,
-        pending,
-        offer,
+        pending: Pending::new(),
+        offer: None,
     }
 }
 
-// A case on a card, both ways, each from the values at the start.
-pub(crate) fn both<'a>(
+// A case on a card, both ways, each from the values at the start; `line` begins with the change.
+pub(crate) fn both(
     setup: Setup,
-    bench: &'a [i32],
-    maker: &'a [i32],
+    sheets: &Sheets<'_>,
     values: [i32; 128],
     line: &[u8],
-) -> Outcome {
-    let text = field(line, 2);
-    let mut first = values;
-    if !change(&mut first, text) {
-        return Outcome::Differs(0);
+) -> Result<(), usize> {
+    let (text, line) = field(line);
+    let mut values = values;
+    if !change(&mut values, text) {
+        return Err(0);
     }
-    let mut second = first;
-    let outcome = messages(true, fresh(setup), bench, maker, &mut first, line);
-    let Outcome::Same = outcome else {
-        return outcome;
-    };
-    messages(false, fresh(setup), bench, maker, &mut second, line)
+    let mut card = fresh(setup);
+    let mut held = values;
+    messages(line, |words, answer| {
+        by_run(&mut card, sheets, &mut held, words, answer)
+    })?;
+    let mut card = fresh(setup);
+    let mut held = values;
+    messages(line, |words, answer| {
+        by_steps(&mut card, sheets, &mut held, words, answer)
+    })
 }

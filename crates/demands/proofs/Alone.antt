@@ -1,5 +1,6 @@
 -- Each card on a pair for itself: with room for every reply its replies, picked out of all, its values and its card are those that a run
 -- of its own would leave. Assumes nothing.
+use Rattle.card.specs.declared.Took.{Took}
 use mathlib.Core.Path.{◌≡◌, sym, ap, ◌∙◌, subst}
 use mathlib.Core.Bool.{true}
 use mathlib.Core.List.{List, [], ◌∷◌, ◌++◌}
@@ -96,8 +97,8 @@ module _ (bench maker : List ℤ) (cs : List Card) (values : List ℤ) (s : Soun
               ap (picked its.card.setup) (bytes_written bench maker cs values s ws out many v written h)
               ∙ own_replies
               ∙ sym (single.bytes_written bench maker its.card its.values t ws own n v b h');
-          same_values = ap (λ (a : After). values_of k a.values) all_left ∙ own_values ∙ sym (ap (λ (a : card.After card.Took). a.values) left);
-          same_card = ap (λ (a : After). get_or a.cards k d) all_left ∙ own_card ∙ sym (ap (λ (a : card.After card.Took). a.card) left);
+          same_values = ap (λ (a : After). values_of k a.values) all_left ∙ own_values ∙ sym (ap (λ (a : card.After Took). a.values) left);
+          same_card = ap (λ (a : After). get_or a.cards k d) all_left ∙ own_card ∙ sym (ap (λ (a : card.After Took). a.card) left);
         }
 
 pub each_alone : EachAlone

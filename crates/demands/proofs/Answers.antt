@@ -15,7 +15,6 @@ use Rattle.reply.specs.declared.Answer.{Answer}
 use Rattle.reply.specs.Reply.{longest_reply, spell_answer, is_answer}
 use Rattle.reply.specs.Read.{read_call}
 use Rattle.reply.proofs.Reader.{read_spelled}
-use Rattle.act.specs.declared.Said.TheVariants.{Silence, Reply}
 use Rattle.card.specs.declared.Card.{Card}
 use Rattle.card.specs.Turn.{turn}
 use Rattle.card.specs.Calls.{After, WordAnswer, bytes_of, step_call}
@@ -24,18 +23,19 @@ use Rattle.card.proofs.Sounds.{said_answer}
 use Rattle.demands.specs.Terms.{Sound, said_to}
 use Rattle.demands.specs.Demand2.{ReplyRead}
 use Rattle.demands.proofs.Words.{taken}
+use Rattle.std.specs.Prelude.{None, Some}
 
 module _ (bench maker : List ℤ) (c : Card) (values : List ℤ) (w : ℕ) where
   -- the bytes are the answer's spelling, whatever the card
-  pub said_bytes : (a : Answer) → said_to bench maker c values w ≡ Reply a → (turn bench maker c values w).reply ≡ travelling (spell_answer a)
+  pub said_bytes : (a : Answer) → said_to bench maker c values w ≡ Some a → (turn bench maker c values w).reply ≡ travelling (spell_answer a)
   unfolding said_to
   said_bytes = turn_spells bench maker c values w
 
-  said_nothing : said_to bench maker c values w ≡ Silence → (turn bench maker c values w).reply ≡ []
+  said_nothing : said_to bench maker c values w ≡ None → (turn bench maker c values w).reply ≡ []
   unfolding said_to
   said_nothing = turn_silent bench maker c values w
 
-  pub said_is : Sound bench maker c values → (a : Answer) → said_to bench maker c values w ≡ Reply a → is_answer a ≡ true
+  pub said_is : Sound bench maker c values → (a : Answer) → said_to bench maker c values w ≡ Some a → is_answer a ≡ true
   unfolding said_to
   said_is s = said_answer bench maker c values s.offer_sound s.scan_sound s.values_sound w
 
@@ -50,20 +50,20 @@ module _ (bench maker : List ℤ) (c : Card) (values : List ℤ) (w : ℕ) where
         (ap (λ (a : After WordAnswer). bytes_of a.outcome) l ∙ ap (λ (x : List ℕ). gave (length x)) e, ap (λ (a : After WordAnswer). a.buffer) l ∙ ap (λ (x : List ℕ). laid x out) e)
 
     -- it writes the spelling of what is said
-    pub writes_spelling : (a : Answer) → said_to bench maker c values w ≡ Reply a
+    pub writes_spelling : (a : Answer) → said_to bench maker c values w ≡ Some a
         → (bytes_of call.outcome ≡ gave (length (travelling (spell_answer a)))) × (take (length (travelling (spell_answer a))) call.buffer ≡ travelling (spell_answer a))
     writes_spelling a e =
         let bs = travelling (spell_answer a) in
         let p = by_reply bs (said_bytes a e) in
         (p.0, ap (take (length bs)) p.1 ∙ laid_front bs out)
 
-    pub reply_reads : (a : Answer) → said_to bench maker c values w ≡ Reply a → (bytes_of call.outcome ≡ gave (length (spell_answer a))) × (read_call (take (length (spell_answer a)) call.buffer) ≡ gave a)
+    pub reply_reads : (a : Answer) → said_to bench maker c values w ≡ Some a → (bytes_of call.outcome ≡ gave (length (spell_answer a))) × (read_call (take (length (spell_answer a)) call.buffer) ≡ gave a)
     reply_reads a e =
         let p = writes_spelling a e in
         let l = travelling_length (spell_answer a) in
         (p.0 ∙ ap gave l, ap (λ (n : ℕ). read_call (take n call.buffer)) (sym l) ∙ ap read_call p.1 ∙ read_spelled a (said_is s a e))
 
-    pub reply_silent : said_to bench maker c values w ≡ Silence → (bytes_of call.outcome ≡ gave 0) × (call.buffer ≡ out)
+    pub reply_silent : said_to bench maker c values w ≡ None → (bytes_of call.outcome ≡ gave 0) × (call.buffer ≡ out)
     reply_silent e = let p = by_reply [] (said_nothing e) in (p.0, p.1 ∙ laid_nothing out)
 
 pub reply_read : ReplyRead

@@ -1,5 +1,6 @@
 -- What a run leaves in the rows is what it leaves of the cards: sound cards are stored back and read again, so the next run is served too.
 -- Assumes nothing.
+use Rattle.card.specs.declared.Took.{Took}
 use mathlib.Core.Path.{◌≡◌, sym, ap, ◌∙◌, subst}
 use mathlib.Core.Bool.{true}
 use mathlib.Core.List.{List, map}
@@ -10,7 +11,6 @@ use Rattle.refusal.specs.Refusal.{gave}
 use Rattle.refusal.proofs.Logic.{ands, and_both}
 use Rattle.wire.specs.Word.{valid_words}
 use Rattle.card.specs.declared.Card.{Card}
-use Rattle.card.specs.Calls.{Took}
 use Rattle.bus.specs.Bus.{cards_in, values_in}
 use Rattle.bus.specs.Calls.{After, ended, bus_call}
 use Rattle.bus.specs.Rows.{rows_in, cards_of, is_rows, stored_back, RowsAfter, rows_call}

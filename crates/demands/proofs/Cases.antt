@@ -32,9 +32,7 @@ use Rattle.reply.specs.Reply.{spell_scan, spell_content, spell_answer, is_no_num
 use Rattle.reply.specs.Read.{characters_of, guess_mark, read_or_zero, decimal_at, guess_content, guess_behind, guess, is_reply, read_call}
 use Rattle.message.specs.declared.Message.{Message}
 use Rattle.act.specs.declared.Setup.{Setup}
-use Rattle.act.specs.declared.Offer.{Offer}
-use Rattle.act.specs.declared.Offer.TheVariants.{Nothing}
-use Rattle.act.specs.declared.causes.Cause.TheVariants.{None, NoMessageClosed, NotWellFormed}
+use Rattle.act.specs.declared.causes.Cause.TheVariants.{NoMessageClosed, NotWellFormed}
 use Rattle.act.specs.Cause.{why, why_of, is_for, is_offered, standing, on_bracket, takes_zero, causes}
 use Rattle.act.specs.Act.{names_from, value_of, scan_of, says, accepts, shown_by, offers, granted, turned_down, respond, act, causes_in}
 use Rattle.card.specs.declared.Card.{Card}
@@ -48,6 +46,8 @@ use Rattle.demands.specs.Causes.{same_why, is_among, gave_cause, draws_it, cause
 use Rattle.demands.specs.Shortest.{FormCase, form_cases, words_in, passes_form}
 use Rattle.demands.specs.Zeros.{zero_forms, is_own_form}
 use Rattle.demands.specs.Bench.{bench_rows, bench_values, card_with, Case, bench_cases, twenty_neighbours, more_cases, first_cases, second_cases, scan_cases, no_replies, time_row, scan_values, equal_z, took, answers_all, passes_on, passes, passes_scan, is_no_reply}
+use Rattle.std.specs.Prelude.{None, Option, Some}
+use Rattle.act.specs.declared.Offer.{Offer}
 
 -- what a table computes through
 unfoldable pub computed : List Case → Bool
@@ -109,7 +109,7 @@ unfolding computed same_why is_among cause_cases every_cause has_case
 all_cases = refl
 
 -- every code that is given is among them: those of the tests, none, no message closed, and each position
-pub tests_known : (bench maker : List ℤ) (c : Setup) (o : Offer) (values : List ℤ) (m : Message) → every (λ (x : Check). is_among (why x.number 0) every_cause) (causes_in bench maker c o values m) ≡ true
+pub tests_known : (bench maker : List ℤ) (c : Setup) (o : Option Offer) (values : List ℤ) (m : Message) → every (λ (x : Check). is_among (why x.number 0) every_cause) (causes_in bench maker c o values m) ≡ true
 unfolding computed causes_in same_why is_among every_cause
 tests_known bench maker c o values m = refl
 
@@ -117,11 +117,11 @@ pub none_known : is_among (why_of None) every_cause ≡ true
 unfolding computed same_why is_among every_cause
 none_known = refl
 
-pub open_known : is_among (why_of NoMessageClosed) every_cause ≡ true
+pub open_known : is_among (why_of (Some NoMessageClosed)) every_cause ≡ true
 unfolding computed same_why is_among every_cause
 open_known = refl
 
-pub places_known : all_below 10 (λ (p : ℕ). eqb p 0 || is_among (why_of (NotWellFormed p)) every_cause) ≡ true
+pub places_known : all_below 10 (λ (p : ℕ). eqb p 0 || is_among (why_of (Some (NotWellFormed p))) every_cause) ≡ true
 unfolding computed same_why is_among every_cause
 places_known = refl
 
@@ -131,7 +131,7 @@ bench_card = card_with 1 ""
 
 sounds : Bool
 unfolding computed
-sounds = sound_card bench_card && (sound_sheet [] && sound_sheet bench_rows) && sound_offer [] bench_rows Nothing && sound_scan [] bench_rows bench_card.setup && sound_values [] bench_rows (bench_values (pos 20))
+sounds = sound_card bench_card && (sound_sheet [] && sound_sheet bench_rows) && sound_offer [] bench_rows None && sound_scan [] bench_rows bench_card.setup && sound_values [] bench_rows (bench_values (pos 20))
 
 pub bench_sound : Sound [] bench_rows bench_card (bench_values (pos 20))
 unfolding sounds computed

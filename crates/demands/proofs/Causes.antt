@@ -16,8 +16,6 @@ use Rattle.refusal.specs.Check.{Check, first}
 use Rattle.refusal.proofs.Checks.{refused_gave, refused_is, gave_is, first_given, given_first, first_passed, passed_first, by_first, first_among}
 use Rattle.wire.proofs.Words.{valid_first, travelling_length}
 use Rattle.message.specs.declared.Message.{Message}
-use Rattle.message.specs.declared.Parsed.{Parsed}
-use Rattle.message.specs.declared.Parsed.TheVariants.{Heard, Unheard}
 use Rattle.message.specs.Prefix.{parse}
 use Rattle.message.specs.Position.{position, WellFormed, Impossible}
 use Rattle.message.proofs.Messages.{Plain}
@@ -33,9 +31,7 @@ use Rattle.reply.specs.Read.{read_call}
 use Rattle.reply.specs.Reply.{spell_answer}
 use Rattle.reply.proofs.Spelled.{answer_some}
 use Rattle.reply.proofs.Reader.{read_exact}
-use Rattle.act.specs.declared.Said.{Said}
-use Rattle.act.specs.declared.Said.TheVariants.{Silence, Reply}
-use Rattle.act.specs.declared.causes.Cause.TheVariants.{None, NoMessageClosed, NotWellFormed}
+use Rattle.act.specs.declared.causes.Cause.TheVariants.{NoMessageClosed, NotWellFormed}
 use Rattle.act.specs.Cause.{Why, why, why_of, because, causes_of_n, silences, is_one_of}
 use Rattle.act.specs.Act.{causes_in}
 use Rattle.act.proofs.Fits.{code_ends, Fits}
@@ -50,6 +46,7 @@ use Rattle.demands.specs.Terms.{Sound, said_to}
 use Rattle.demands.specs.Causes.{every_cause, is_among, Closes, as_sent, Gives, CauseExact, Causes}
 use Rattle.demands.proofs.Answers.{reply_reads, reply_silent}
 use Rattle.demands.proofs.Cases.{each_drawn, all_cases, tests_known, none_known, open_known, places_known}
+use Rattle.std.specs.Prelude.{None, Option, Some}
 
 -- ---- codes
 
@@ -66,10 +63,10 @@ some : (n : ℕ) → 0 < n → Alike (refused n)
 some n h = (λ e. absurd (omega (arith, ap (λ (y : Why). y.code) e)), λ e. absurd (refused_gave e))
 
 -- every position from 1 to 9 is one of a cause
-place_known : (p : ℕ) → 1 ≤ p → p ≤ 9 → is_among (why_of (NotWellFormed p)) every_cause ≡ true
+place_known : (p : ℕ) → 1 ≤ p → p ≤ 9 → is_among (why_of (Some (NotWellFormed p))) every_cause ≡ true
 place_known p l h =
-    or_cases (eqb p 0) (is_among (why_of (NotWellFormed p)) every_cause)
-    (below 10 (λ (k : ℕ). eqb k 0 || is_among (why_of (NotWellFormed k)) every_cause) places_known p (omega arith))
+    or_cases (eqb p 0) (is_among (why_of (Some (NotWellFormed p))) every_cause)
+    (below 10 (λ (k : ℕ). eqb k 0 || is_among (why_of (Some (NotWellFormed k))) every_cause) places_known p (omega arith))
     (λ t. absurd (omega (arith, eqb-true p 0 t))) (λ t. t)
 
 module _ (bench maker : List ℤ) (c : Card) (values : List ℤ) where
@@ -100,7 +97,7 @@ module _ (bench maker : List ℤ) (c : Card) (values : List ℤ) where
   -- ---- a word by what it closes
 
   module _ (w : ℕ) where
-    pub by_closed : {X : Type 0} → ((m : Message) → Closes c w → parse (open_of c.pending) ≡ Heard m → X) → (Closes c w → parse (open_of c.pending) ≡ Unheard → X) → ((Closes c w → ⊥) → X) → X
+    pub by_closed : {X : Type 0} → ((m : Message) → Closes c w → parse (open_of c.pending) ≡ Some m → X) → (Closes c w → parse (open_of c.pending) ≡ None → X) → ((Closes c w → ⊥) → X) → X
     by_closed {X} heard unheard none = go (action_of c.pending w) refl
       where
         mark : Action → ℕ
@@ -113,9 +110,9 @@ module _ (bench maker : List ℤ) (c : Card) (values : List ℤ) where
         other : (a : Action) → mark a ≡ 0 → action_of c.pending w ≡ a → Closes c w → ⊥
         other a z e k = omega (arith, sym (ap mark k) ∙ ap mark e ∙ z)
 
-        ended : (q : Parsed) → parse (open_of c.pending) ≡ q → Closes c w → X
-        ended (Heard m) h k = heard m k h
-        ended Unheard h k = unheard k h
+        ended : (q : Option Message) → parse (open_of c.pending) ≡ q → Closes c w → X
+        ended (Some m) h k = heard m k h
+        ended None h k = unheard k h
 
         go : (a : Action) → action_of c.pending w ≡ a → X
         go Ignore e = none (other Ignore refl e)
@@ -125,7 +122,7 @@ module _ (bench maker : List ℤ) (c : Card) (values : List ℤ) where
         go Drop e = none (other Drop refl e)
 
     -- its code, where a message is heard: none above 8
-    heard_code : (m : Message) → Closes c w → parse (open_of c.pending) ≡ Heard m → (why_to bench maker c values w).code ≤ 8
+    heard_code : (m : Message) → Closes c w → parse (open_of c.pending) ≡ Some m → (why_to bench maker c values w).code ≤ 8
     heard_code m k h =
         rw (why_close bench maker c values w k ∙ closed_heard bench maker c.setup c.offer values (open_of c.pending) (parse (open_of c.pending)) m h) (test_below m)
 
@@ -165,7 +162,7 @@ module _ (bench maker : List ℤ) (c : Card) (values : List ℤ) where
       plain : Plain (open_of c.pending)
       plain = open_plain c.pending (card_parts c sound.card_sound).is_open
 
-      no_message_is : (s.cause ≡ why_of NoMessageClosed) ↔ (Closes c w → ⊥)
+      no_message_is : (s.cause ≡ why_of (Some NoMessageClosed)) ↔ (Closes c w → ⊥)
       no_message_is = (
         λ e. by_closed
             (λ m k h. absurd (omega (arith, heard_code m k h, code-is 9 0 e)))
@@ -174,7 +171,7 @@ module _ (bench maker : List ℤ) (c : Card) (values : List ℤ) where
         λ f. cause_is ∙ why_none bench maker c values w f,
       )
 
-      position_of : (p : ℕ) → (s.cause ≡ why_of (NotWellFormed p)) ↔ (Closes c w × Impossible (as_sent c) p)
+      position_of : (p : ℕ) → (s.cause ≡ why_of (Some (NotWellFormed p))) ↔ (Closes c w × Impossible (as_sent c) p)
       position_of p = (
         λ e. by_closed
             (λ m k h. absurd (omega (arith, heard_code m k h, code-is 10 p e)))
@@ -184,17 +181,17 @@ module _ (bench maker : List ℤ) (c : Card) (values : List ℤ) where
             (λ f. absurd (omega (arith, ap (λ (y : Why). y.code) (why_none bench maker c values w f), code-is 10 p e))),
         λ i.
             let o = position_only (open_of c.pending) plain p i.1 in
-            cause_is ∙ why_unheard bench maker c values w i.0 o.0 ∙ ap (λ (n : ℕ). why_of (NotWellFormed n)) (sym o.1),
+            cause_is ∙ why_unheard bench maker c values w i.0 o.0 ∙ ap (λ (n : ℕ). why_of (Some (NotWellFormed n))) (sym o.1),
       )
 
-      place_ends : Closes c w → parse (open_of c.pending) ≡ Unheard → (1 ≤ position (open_of c.pending)) × (position (open_of c.pending) ≤ 9)
+      place_ends : Closes c w → parse (open_of c.pending) ≡ None → (1 ≤ position (open_of c.pending)) × (position (open_of c.pending) ≤ 9)
       place_ends k h =
           let b = open_begins c.pending w (card_parts c sound.card_sound).is_open k in (
             subst (λ (xs : List ℕ). 1 ≤ position xs) (sym b.is) (position_least b.letter b.rest b.is-letter),
             position_most (open_of c.pending) (open_most c.pending (card_parts c sound.card_sound).is_open) h,
           )
 
-      ends : (p : ℕ) → s.cause ≡ why_of (NotWellFormed p) → (1 ≤ p) × (p ≤ 9)
+      ends : (p : ℕ) → s.cause ≡ why_of (Some (NotWellFormed p)) → (1 ≤ p) × (p ≤ 9)
       ends p e =
           let i = (position_of p).0 e in
           let o = position_only (open_of c.pending) plain p i.1 in
@@ -209,7 +206,7 @@ module _ (bench maker : List ℤ) (c : Card) (values : List ℤ) where
           (λ k h. let b = place_ends k h in rw (why_unheard bench maker c values w k h) (place_known (position (open_of c.pending)) b.0 b.1))
           (λ f. rw (why_none bench maker c values w f) open_known))
 
-      heard_is : ((m : Message) × ((hear c.pending w).message ≡ Heard m)) ↔ (Closes c w × WellFormed (as_sent c))
+      heard_is : ((m : Message) × ((hear c.pending w).message ≡ Some m)) ↔ (Closes c w × WellFormed (as_sent c))
       heard_is = (
         λ d.
             let k = heard_close c.pending w d.0 d.1 in
@@ -230,24 +227,24 @@ module _ (bench maker : List ℤ) (c : Card) (values : List ℤ) where
       count-is e = gave_is (sym (ap bytes_of g) ∙ e)
 
       -- a reply is read as what was said, and has some bytes; silence has none, and nothing is read in it
-      replied : (a : Answer) → said_to bench maker c values w ≡ Reply a → (read_call (take s.bytes buffer) ≡ gave a) × (0 < s.bytes)
+      replied : (a : Answer) → said_to bench maker c values w ≡ Some a → (read_call (take s.bytes buffer) ≡ gave a) × (0 < s.bytes)
       replied a e =
           let r = reply_reads bench maker c values w out sound small step_made.room a e in
           let n = count-is r.0 in
           (ap (λ (k : ℕ). read_call (take k buffer)) n ∙ r.1, omega (arith, n, answer_some a))
 
-      quiet : said_to bench maker c values w ≡ Silence → s.bytes ≡ 0
+      quiet : said_to bench maker c values w ≡ None → s.bytes ≡ 0
       quiet e = count-is (reply_silent bench maker c values w out sound small step_made.room e).0
 
       nothing_read : (a : Answer) → read_call [] ≡ gave a → ⊥
       nothing_read a e = omega (arith, ap length (read_exact [] a e).1, travelling_length (spell_answer a), answer_some a)
 
-      by_said : {X : Type 0} → ((a : Answer) → said_to bench maker c values w ≡ Reply a → X) → (said_to bench maker c values w ≡ Silence → X) → X
+      by_said : {X : Type 0} → ((a : Answer) → said_to bench maker c values w ≡ Some a → X) → (said_to bench maker c values w ≡ None → X) → X
       by_said {X} reply silence = go (said_to bench maker c values w) refl
         where
-          go : (x : Said) → said_to bench maker c values w ≡ x → X
-          go (Reply a) e = reply a e
-          go Silence e = silence e
+          go : (x : Option Answer) → said_to bench maker c values w ≡ x → X
+          go (Some a) e = reply a e
+          go None e = silence e
 
       declined_is : ((a : Answer) × (read_call (take s.bytes buffer) ≡ gave a) × (a.mark ≡ Declined)) ↔ (is_one_of s.cause.code causes_of_n ≡ true)
       declined_is = (

@@ -14,14 +14,9 @@ use Rattle.refusal.proofs.Logic.{by-test}
 use Rattle.refusal.proofs.Buffers.{laid_front}
 use Rattle.wire.specs.Word.{valid_words}
 use Rattle.wire.proofs.Words.{travelling_length}
-use Rattle.message.specs.declared.Parsed.{Parsed}
-use Rattle.message.specs.declared.Parsed.TheVariants.{Heard, Unheard}
 use Rattle.hearing.specs.Hearing.{none, hear}
 use Rattle.reply.specs.Reply.{spell_answer}
 use Rattle.act.specs.declared.Setup.{Setup}
-use Rattle.act.specs.declared.Offer.TheVariants.{Nothing}
-use Rattle.act.specs.declared.Said.{Said}
-use Rattle.act.specs.declared.Said.TheVariants.{Silence, Reply}
 use Rattle.act.specs.Act.{no_effect}
 use Rattle.act.proofs.Shapes.{size_of, Shaped, itself, act_shaped}
 use Rattle.card.specs.declared.Card.{Card}
@@ -37,6 +32,9 @@ use Rattle.bus.proofs.Sharing.{plays, bus_served, setups_in, setups_stay, hears_
 use Rattle.demands.specs.Bus.{SoundTogether, values_of, picked, ButFor, Untouched, Isolated}
 use Rattle.demands.proofs.Pair.{Joint, starts_joint, all_pass, word_joint, whole}
 use Rattle.demands.proofs.Picked.{picked_word}
+use Rattle.std.specs.Prelude.{None, Option, Some}
+use Rattle.message.specs.declared.Message.{Message}
+use Rattle.reply.specs.declared.Answer.{Answer}
 
 -- ---- two runs at once
 
@@ -75,9 +73,9 @@ module _ {S : Type 0} (f : S → ℕ → Reaction S) (R : S → S → Type 0) (B
 
 -- ---- one card with two lists of values
 
-reply_size : (s : Said) → length (reply_of s) ≡ size_of s
-reply_size Silence = refl
-reply_size (Reply a) = travelling_length (spell_answer a)
+reply_size : (s : Option Answer) → length (reply_of s) ≡ size_of s
+reply_size None = refl
+reply_size (Some a) = travelling_length (spell_answer a)
 
 -- two reactions that differ at most in the values, and in the bytes but not in how many there are
 record Same (r r' : Reaction (List Instrument)) : Type 0 where
@@ -86,9 +84,9 @@ record Same (r r' : Reaction (List Instrument)) : Type 0 where
 
 module _ (bench maker : List ℤ) where
   module _ (c : Card) (values values' : List ℤ) (w : ℕ) where
-    shaped : (x : Parsed) → Shaped (effects bench maker c values x) (effects bench maker c values' x)
-    shaped (Heard m) = rw (effect_heard bench maker c.setup c.offer values m, effect_heard bench maker c.setup c.offer values' m) (act_shaped m bench maker c.setup c.offer values values')
-    shaped Unheard = rw (← effect_unheard bench maker c.setup c.offer values Unheard refl, ← effect_unheard bench maker c.setup c.offer values' Unheard refl) (itself (no_effect c.offer))
+    shaped : (x : Option Message) → Shaped (effects bench maker c values x) (effects bench maker c values' x)
+    shaped (Some m) = rw (effect_heard bench maker c.setup c.offer values m, effect_heard bench maker c.setup c.offer values' m) (act_shaped m bench maker c.setup c.offer values values')
+    shaped None = rw (← effect_unheard bench maker c.setup c.offer values None refl, ← effect_unheard bench maker c.setup c.offer values' None refl) (itself (no_effect c.offer))
 
     turn_same : (turn bench maker c values w).card ≡ (turn bench maker c values' w).card
     turn_same =
@@ -134,7 +132,7 @@ record Near (bench maker : List ℤ) (k : ℕ) (ss : List Setup) (is is' : List 
 
 -- stands behind the last
 abbrev behind : Setup → Instrument
-behind s = record { card = record { setup = s; pending = none; offer = Nothing }; values = [] }
+behind s = record { card = record { setup = s; pending = none; offer = None }; values = [] }
 
 module _ (is : List Instrument) (ss : List Setup) (e : setups_in (cards_in is) ≡ ss) where
   many : length is ≡ length ss

@@ -1,5 +1,6 @@
 -- A message for another card changes nothing but the open message, and what playing draws and leaves is decided by the messages for this
 -- card alone. Assumes nothing.
+use Rattle.std.specs.Prelude.{Some}
 use mathlib.Core.Path.{◌≡◌, sym, ap, ap₂, ◌∙◌, subst}
 use mathlib.Core.Bool.{true}
 use mathlib.Core.List.{List, [], ◌∷◌}
@@ -60,7 +61,7 @@ neighbours_ignored = record {
   no_notice = λ bench maker c values w out m s v h e t.
       taken bench maker c values s w out v h
       ∙ ap₂ (λ (x : Turn) (y : Why). answered x y values out) (turn_neighbour bench maker c values w m e t) (why_neighbour bench maker c values w m e t)
-      ∙ sym (quiet_answered (with_both c none c.offer) (why_of NotForThisCard) values out);
+      ∙ sym (quiet_answered (with_both c none c.offer) (why_of (Some NotForThisCard)) values out);
   still_cancels = λ bench maker c values w out k m i z g h t l.
       let q = call_leaves bench maker c values w m h t out k i z g l in
       (q.number, q.type_3, q.its);

@@ -18,8 +18,6 @@ use Rattle.number.proofs.Cuts.{cut_is, cut_multiple, cut_below, cut_greatest, cu
 use Rattle.number.proofs.Reading.{within_fits, numeral_fits}
 use Rattle.message.specs.declared.Body.TheVariants.{Set}
 use Rattle.message.specs.declared.Message.{Message}
-use Rattle.message.specs.declared.Parsed.{Parsed}
-use Rattle.message.specs.declared.Parsed.TheVariants.{Heard}
 use Rattle.message.specs.Message.{star, is_message}
 use Rattle.message.proofs.Messages.{whole, parts_body, letter_is, address_is}
 use Rattle.hearing.specs.Hearing.{hear}
@@ -30,7 +28,6 @@ use Rattle.sheet.specs.declared.Row.{Row}
 use Rattle.sheet.specs.Sheet.{sound_sheet}
 use Rattle.sheet.proofs.Values.{SoundRow, entry_sound, entry_identifier, fits_parts, range_small}
 use Rattle.sheet.proofs.Least.{least_values, least_sound}
-use Rattle.act.specs.declared.Offer.TheVariants.{Nothing, Held}
 use Rattle.act.specs.declared.Effect.{Effect}
 use Rattle.act.specs.Cause.{is_for}
 use Rattle.act.specs.Act.{act}
@@ -45,17 +42,19 @@ use Rattle.card.proofs.Sounds.{Offerable, offer_parts, leaves_sound, row_no_scan
 use Rattle.demands.specs.Demand2.{LeftBy, OfferReachable, NotAbove, NeverUp}
 use Rattle.demands.proofs.Words.{taken}
 use Rattle.demands.proofs.Possible.{card_for, for_itself, room, star_valid, card_sound}
+use Rattle.std.specs.Prelude.{None, Option, Some}
+use Rattle.act.specs.Act.{held}
 
 -- ---- what a word that closes a message for this card leaves on offer
 
-module _ (bench maker : List ℤ) (c : Card) (values : List ℤ) (w : ℕ) (m : Message) (h : (hear c.pending w).message ≡ Heard m) where
+module _ (bench maker : List ℤ) (c : Card) (values : List ℤ) (w : ℕ) (m : Message) (h : (hear c.pending w).message ≡ Some m) where
   pub turn_offer : (turn bench maker c values w).card.offer ≡ (act bench maker c.setup c.offer values m).offer
   turn_offer =
       ap (λ (x : Card). x.offer) (turn_card bench maker c values w)
-      ∙ ap (λ (p : Parsed). (effects bench maker c values p).offer) h
+      ∙ ap (λ (p : Option Message). (effects bench maker c values p).offer) h
       ∙ ap (λ (x : Effect). x.offer) (effect_heard bench maker c.setup c.offer values m)
 
-  pub call_leaves : is_for c.setup m ≡ true → (out : List ℕ) (k i : ℕ) (z : ℤ) → bytes_of (step_call c bench maker values w out).outcome ≡ gave k → (step_call c bench maker values w out).card.offer ≡ Held i z → Leaves bench maker m i z
+  pub call_leaves : is_for c.setup m ≡ true → (out : List ℕ) (k i : ℕ) (z : ℤ) → bytes_of (step_call c bench maker values w out).outcome ≡ gave k → (step_call c bench maker values w out).card.offer ≡ held i z → Leaves bench maker m i z
   call_leaves t out k i z g l =
       act_leaves bench maker m c.setup c.offer values t i z
       (sym turn_offer ∙ sym (ap (λ (a : After WordAnswer). a.card.offer) (served_step c bench maker values w out k g).leaves) ∙ l)
@@ -87,7 +86,7 @@ never_up = record {
 
 module _ (bench maker : List ℤ) (i : ℕ) (z : ℤ) where
   -- what a Type 3 leaves is sound
-  left_sound : LeftBy bench maker (Held i z) → sound_offer bench maker (Held i z) ≡ true
+  left_sound : LeftBy bench maker (held i z) → sound_offer bench maker (held i z) ≡ true
   left_sound l = leaves_sound bench maker l.message i z (call_leaves bench maker l.card l.values l.word l.message l.closes l.is_ours l.out l.bytes i z l.gives l.leaves)
 
   -- the Type 3 that asks for the value on offer
@@ -97,7 +96,7 @@ module _ (bench maker : List ℤ) (i : ℕ) (z : ℤ) where
   abbrev unnamed : List ℕ
   unnamed = replicate 5 0
 
-  offer_left : (sound_sheet bench && sound_sheet maker) ≡ true → no_scan_row bench maker ≡ true → Offerable bench maker i z → LeftBy bench maker (Held i z)
+  offer_left : (sound_sheet bench && sound_sheet maker) ≡ true → no_scan_row bench maker ≡ true → Offerable bench maker i z → LeftBy bench maker (held i z)
   offer_left sheets free o =
       let r = o.allowed.row in
       let e = o.allowed.found in
@@ -137,8 +136,8 @@ module _ (bench maker : List ℤ) (i : ℕ) (z : ℤ) where
         leaves =
             ap (λ (a : After WordAnswer). a.card.offer) call
             ∙ turn_offer bench maker its values (with_parity star) m (spelled_closed m is-message)
-            ∙ set_leaves bench maker its.setup Nothing values m (for_itself m 0 unnamed) (row_no_scan bench maker free i r e) r e z refl o.writable p.0
-            ∙ ap (Held i) (cut_own r.step s.step_least z b s.step_most p.1);
+            ∙ set_leaves bench maker its.setup None values m (for_itself m 0 unnamed) (row_no_scan bench maker free i r e) r e z refl o.writable p.0
+            ∙ ap (held i) (cut_own r.step s.step_least z b s.step_most p.1);
       }
 
 pub offer_reachable : OfferReachable

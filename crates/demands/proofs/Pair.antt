@@ -15,8 +15,6 @@ use Rattle.refusal.proofs.Logic.{by-test}
 use Rattle.refusal.proofs.Buffers.{laid_front}
 use Rattle.refusal.proofs.Lists.{every_at}
 use Rattle.wire.specs.Word.{valid_words}
-use Rattle.message.specs.declared.Parsed.{Parsed}
-use Rattle.message.specs.declared.Parsed.TheVariants.{Heard, Unheard}
 use Rattle.hearing.specs.declared.Pending.{Pending}
 use Rattle.hearing.specs.Hearing.{hear}
 use Rattle.hearing.proofs.Normal.{normal_valid}
@@ -40,6 +38,8 @@ use Rattle.demands.specs.Terms.{Sound}
 use Rattle.demands.specs.Bus.{SoundTogether, values_of, all_replies, replies_of, AllAlike, BusDemand3, OnePair}
 use Rattle.demands.proofs.Words.{taken, left}
 use Rattle.demands.proofs.Recordings.{parts}
+use Rattle.std.specs.Prelude.{None, Option, Some}
+use Rattle.message.specs.declared.Message.{Message}
 
 -- ---- soundness, card by card
 
@@ -136,9 +136,9 @@ module _ (bench maker : List ℤ) (cs : List Card) (values : List ℤ) (s : Soun
     replies_one : j < length cs → k < length cs → (j ≡ k → ⊥) → (given j ≡ gave 0) ⊎ (given k ≡ gave 0)
     replies_one lj lk n = by (hear (get_or cs j d).pending w).message refl
       where
-        by : (x : Parsed) → (hear (get_or cs j d).pending w).message ≡ x → (given j ≡ gave 0) ⊎ (given k ≡ gave 0)
-        by Unheard e = inl (silent_at j lj (turn_unheard bench maker (get_or cs j d) (values_of j values) w e) refl)
-        by (Heard m) e =
+        by : (x : Option Message) → (hear (get_or cs j d).pending w).message ≡ x → (given j ≡ gave 0) ⊎ (given k ≡ gave 0)
+        by None e = inl (silent_at j lj (turn_unheard bench maker (get_or cs j d) (values_of j values) w e) refl)
+        by (Some m) e =
             by-test (is_for (get_or cs j d).setup m)
             (λ t.
             let other = not_both (get_or cs j d).setup (get_or cs k d).setup m (cards_apart cs d j k s.bus_sound lj lk n) t in

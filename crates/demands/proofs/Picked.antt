@@ -20,8 +20,6 @@ use Rattle.reply.proofs.Spelled.{before_star, star_ends, before_plain}
 use Rattle.reply.proofs.Reader.{answer_parts, read_spelled}
 use Rattle.hearing.specs.Hearing.{hear}
 use Rattle.act.specs.declared.Setup.{Setup}
-use Rattle.act.specs.declared.Said.{Said}
-use Rattle.act.specs.declared.Said.TheVariants.{Silence, Reply}
 use Rattle.card.specs.declared.Card.{Card}
 use Rattle.card.specs.Run.{Reaction}
 use Rattle.card.specs.Turn.{turn, Instrument, hears}
@@ -35,6 +33,7 @@ use Rattle.bus.proofs.Sharing.{others_apart}
 use Rattle.demands.specs.Terms.{Sound}
 use Rattle.demands.specs.Bus.{replies_in, spoken_by, only_by, picked}
 use Rattle.demands.proofs.Pair.{EachSound, Joint}
+use Rattle.std.specs.Prelude.{None, Option, Some}
 
 -- ---- one reply, up to its `*`
 
@@ -118,16 +117,16 @@ module _ (s : Setup) where
 -- ---- a word
 
 module _ (bench maker : List ℤ) (c : Card) (values : List ℤ) (s : Sound bench maker c values) (w : ℕ) where
-  abbrev said : Said
+  abbrev said : Option Answer
   said = (effects bench maker c values (hear c.pending w).message).said
 
   -- what a sound card replies to it
   turn_says : Says c.setup (turn bench maker c values w).reply
   turn_says = by said refl
     where
-      by : (x : Said) → said ≡ x → Says c.setup (turn bench maker c values w).reply
-      by Silence e = nothing (turn_silent bench maker c values w e)
-      by (Reply a) e =
+      by : (x : Option Answer) → said ≡ x → Says c.setup (turn bench maker c values w).reply
+      by None e = nothing (turn_silent bench maker c values w e)
+      by (Some a) e =
           let p = effect_speaks bench maker c.setup c.offer values (hear c.pending w).message a e in
           replies a (record {
             is-answer = said_answer bench maker c values s.offer_sound s.scan_sound s.values_sound w a e;

@@ -26,13 +26,11 @@ use Rattle.number.proofs.Several.{nth}
 use Rattle.message.specs.declared.Body.{Body}
 use Rattle.message.specs.declared.Body.TheVariants as body
 use Rattle.message.specs.declared.Message.{Message}
-use Rattle.message.specs.declared.Parsed.{Parsed}
 use Rattle.message.specs.Message.{star, question, is_letter, is_address, is_identifier, is_message}
 use Rattle.message.specs.Spell.{spell_open}
 use Rattle.message.proofs.Messages.{BodyParts, parts, whole, parts_body}
 use Rattle.message.proofs.Spelling.{open_length}
 use Rattle.hearing.proofs.Sound.{pending_with, pending_holds, spelled_sound, spelled_closed}
-use Rattle.sheet.specs.declared.Entry.TheVariants.{Found}
 use Rattle.sheet.specs.Sheet.{sound_sheet}
 use Rattle.sheet.specs.Lookup.{has_row}
 use Rattle.sheet.specs.Values.{entry_in, sound_values}
@@ -47,8 +45,6 @@ use Rattle.reply.specs.declared.Answer.{Answer}
 use Rattle.reply.specs.Reply.{longest_reply, scan_identifier, spell_answer, fits_content, is_answer}
 use Rattle.reply.specs.Read.{read_call}
 use Rattle.reply.proofs.Reader.{answer_parts, number_content, status_content, none_content, four_content, five_content, scan_no_status, read_spelled, read_exact}
-use Rattle.act.specs.declared.Offer.TheVariants.{Nothing}
-use Rattle.act.specs.declared.Said.TheVariants.{Reply}
 use Rattle.act.specs.declared.Effect.{Effect}
 use Rattle.act.specs.declared.Setup.{Setup}
 use Rattle.act.specs.Cause.{is_for}
@@ -64,6 +60,7 @@ use Rattle.card.proofs.Sounds.{parts_card, setup_sound, first_revision, nothing_
 use Rattle.demands.specs.Terms.{Sound, said_to}
 use Rattle.demands.specs.Demand2.{Drawn, ReaderExact}
 use Rattle.demands.proofs.Answers.{said_bytes, said_is, writes_spelling}
+use Rattle.std.specs.Prelude.{None, Option, Some}
 
 -- ---- the card that a message is for, with it open
 
@@ -72,7 +69,7 @@ module _ (m : Message) (names : ℕ) (scan : List ℕ) where
   setup_for = record { letter = m.letter; address = m.address; count = names; scan = scan; revision = 1 }
 
   abbrev pub card_for : Card
-  card_for = record { setup = setup_for; pending = pending_with (spell_open m); offer = Nothing }
+  card_for = record { setup = setup_for; pending = pending_with (spell_open m); offer = None }
 
   pub for_itself : is_for setup_for m ≡ true
   for_itself = own_card setup_for m refl refl
@@ -95,18 +92,18 @@ room = replicate longest_reply 0
 pub star_valid : with_parity star ≤ 256
 star_valid = rw star_travels (lit≤ tt)
 
-module _ (m : Message) (e : is_message m ≡ true) (names : ℕ) (scan : List ℕ) (bench maker values : List ℤ) (a : Answer) (g : (answered bench maker (setup_for m names scan) Nothing values m (for_itself m names scan)).said ≡ Reply a) where
+module _ (m : Message) (e : is_message m ≡ true) (names : ℕ) (scan : List ℕ) (bench maker values : List ℤ) (a : Answer) (g : (answered bench maker (setup_for m names scan) None values m (for_itself m names scan)).said ≡ Some a) where
   abbrev s : Setup
   s = setup_for m names scan
 
   abbrev c : Card
   c = card_for m names scan
 
-  says_so : said_to bench maker c values (with_parity star) ≡ Reply a
+  says_so : said_to bench maker c values (with_parity star) ≡ Some a
   unfolding said_to
   says_so =
-      ap (λ (x : Parsed). (effect_of bench maker s Nothing values x).said) (spelled_closed m e)
-      ∙ ap (λ (x : Effect). x.said) (effect_heard bench maker s Nothing values m)
+      ap (λ (x : Option Message). (effect_of bench maker s None values x).said) (spelled_closed m e)
+      ∙ ap (λ (x : Effect). x.said) (effect_heard bench maker s None values m)
       ∙ g
 
   drawn : (sound_sheet bench && sound_sheet maker) ≡ true → length scan ≡ 5 → sound_scan bench maker s ≡ true → sound_values bench maker values ≡ true → Drawn (travelling (spell_answer a)) a
@@ -161,20 +158,20 @@ module _ (l a i : ℕ) (pl : is_letter l ≡ true) (pa : is_address a ≡ true) 
   a_message b f = whole (asked b) (record { is-letter = pl; is-address = pa; is-identifier = pi; fits-body = parts_body i b f })
 
   -- a card that names none, with sheets that have no row for `]`
-  by_none : (bench values : List ℤ) (b : Body) (k : Mark) (x : Content) → BodyParts i b → (answered bench [] (setup_for (asked b) 0 unnamed) Nothing values (asked b) (for_itself (asked b) 0 unnamed)).said ≡ Reply (given k x) → sound_sheet bench ≡ true → has_row bench scan_identifier ≡ false → sound_values bench [] values ≡ true → Drawn (travelling (spell_answer (given k x))) (given k x)
+  by_none : (bench values : List ℤ) (b : Body) (k : Mark) (x : Content) → BodyParts i b → (answered bench [] (setup_for (asked b) 0 unnamed) None values (asked b) (for_itself (asked b) 0 unnamed)).said ≡ Some (given k x) → sound_sheet bench ≡ true → has_row bench scan_identifier ≡ false → sound_values bench [] values ≡ true → Drawn (travelling (spell_answer (given k x))) (given k x)
   by_none bench values b k x t g p n v =
       drawn (asked b) (a_message b t) 0 unnamed bench [] values (given k x) g
       (and_both p no_rows) refl (no_scan bench [] (no-scan-row bench [] n (no_rows_none scan_identifier)) (setup_for (asked b) 0 unnamed) refl) v
 
   -- without rows
-  by_nothing : (b : Body) (k : Mark) (x : Content) → BodyParts i b → (answered [] [] (setup_for (asked b) 0 unnamed) Nothing zeros (asked b) (for_itself (asked b) 0 unnamed)).said ≡ Reply (given k x) → Drawn (travelling (spell_answer (given k x))) (given k x)
+  by_nothing : (b : Body) (k : Mark) (x : Content) → BodyParts i b → (answered [] [] (setup_for (asked b) 0 unnamed) None zeros (asked b) (for_itself (asked b) 0 unnamed)).said ≡ Some (given k x) → Drawn (travelling (spell_answer (given k x))) (given k x)
   by_nothing b k x t g = by_none [] zeros b k x t g no_rows (no_rows_none scan_identifier) (no_rows_values zeros refl)
 
   status_drawn : eqb i question ≡ true → Drawn (travelling (spell_answer (given Accepted Empty))) (given Accepted Empty)
   status_drawn q =
       let m = asked body.Status in
       let u : eqb i scan_identifier ≡ false = rw (eqb-true i question q) refl in
-      by_nothing body.Status Accepted Empty q (status_said [] [] (setup_for m 0 unnamed) Nothing zeros m (for_itself m 0 unnamed) u refl)
+      by_nothing body.Status Accepted Empty q (status_said [] [] (setup_for m 0 unnamed) None zeros m (for_itself m 0 unnamed) u refl)
 
   module _ (x : Decimal) (q : eqb i question ≡ false) (u : eqb i scan_identifier ≡ false) (f : fits x ≡ true) where
     abbrev n : ℤ
@@ -186,15 +183,15 @@ module _ (l a i : ℕ) (pl : is_letter l ≡ true) (pa : is_address a ≡ true) 
     -- a row of its own, with n in its place
     module _ (access : ℕ) (r : in_range (pos 1) (pos access) (pos 3) ≡ true) where
       abbrev to : Body → Effect
-      to b = answered (one_row i access d) [] (setup_for (asked b) 0 unnamed) Nothing (one_value i n) (asked b) (for_itself (asked b) 0 unnamed)
+      to b = answered (one_row i access d) [] (setup_for (asked b) 0 unnamed) None (one_value i n) (asked b) (for_itself (asked b) 0 unnamed)
 
-      its : entry_in (one_row i access d) [] i ≡ Found (its_numbers access d)
+      its : entry_in (one_row i access d) [] i ≡ Some (its_numbers access d)
       its = one_entry i access d pi q r (fits_within x f).1
 
-      there : (k : Mark) (b : Body) → (to b).said ≡ Reply (given k (Number (with_decimals (get_or (one_value i n) i (pos 0)) d))) → (to b).said ≡ Reply (given k (Number x))
-      there k b e = e ∙ ap (λ (z : ℤ). Reply (given k (Number (with_decimals z d)))) (one_there i access d pi q r (fits_within x f).1 n)
+      there : (k : Mark) (b : Body) → (to b).said ≡ Some (given k (Number (with_decimals (get_or (one_value i n) i (pos 0)) d))) → (to b).said ≡ Some (given k (Number x))
+      there k b e = e ∙ ap (λ (z : ℤ). Some (given k (Number (with_decimals z d)))) (one_there i access d pi q r (fits_within x f).1 n)
 
-      by_row : (b : Body) (k : Mark) → BodyParts i b → (to b).said ≡ Reply (given k (Number x)) → Drawn (travelling (spell_answer (given k (Number x)))) (given k (Number x))
+      by_row : (b : Body) (k : Mark) → BodyParts i b → (to b).said ≡ Some (given k (Number x)) → Drawn (travelling (spell_answer (given k (Number x)))) (given k (Number x))
       by_row b k t g =
           let w = fits_within x f in
           by_none (one_row i access d) (one_value i n) b k (Number x) t g
@@ -206,26 +203,26 @@ module _ (l a i : ℕ) (pl : is_letter l ≡ true) (pa : is_address a ≡ true) 
         let r = ends_in_range (pos 1) (pos 2) (pos 3) refl refl in
         by_row 2 r body.Query Accepted q
         (there 2 r Accepted body.Query
-        (query_said (one_row i 2 d) [] (setup_for m 0 unnamed) Nothing (one_value i n) m (for_itself m 0 unnamed) u (its_numbers 2 d) (its 2 r) refl (read_write_readable (its_numbers 2 d) (read_write_is (its_numbers 2 d) refl))))
+        (query_said (one_row i 2 d) [] (setup_for m 0 unnamed) None (one_value i n) m (for_itself m 0 unnamed) u (its_numbers 2 d) (its 2 r) refl (read_write_readable (its_numbers 2 d) (read_write_is (its_numbers 2 d) refl))))
     number_drawn Declined =
         let m = asked body.Up in
         let r = ends_in_range (pos 1) (pos 1) (pos 3) refl refl in
         by_row 1 r body.Up Declined q
         (there 1 r Declined body.Up
-        (up_refused (one_row i 1 d) [] (setup_for m 0 unnamed) Nothing (one_value i n) m (for_itself m 0 unnamed) u (its_numbers 1 d) (its 1 r) refl (read_only_not_read_write (its_numbers 1 d) refl) (read_only_readable (its_numbers 1 d) refl)))
+        (up_refused (one_row i 1 d) [] (setup_for m 0 unnamed) None (one_value i n) m (for_itself m 0 unnamed) u (its_numbers 1 d) (its 1 r) refl (read_only_not_read_write (its_numbers 1 d) refl) (read_only_readable (its_numbers 1 d) refl)))
     number_drawn Offered =
         let m = asked (body.Set (numeral x)) in
         let r = ends_in_range (pos 1) (pos 2) (pos 3) refl refl in
         let h = (fits_within x f).0 in
         by_row 2 r (body.Set (numeral x)) Offered (q, numeral_fits x f)
-        (set_said (one_row i 2 d) [] (setup_for m 0 unnamed) Nothing (one_value i n) m (for_itself m 0 unnamed) u (its_numbers 2 d) (its 2 r) n refl (read_write_writable (its_numbers 2 d) (read_write_is (its_numbers 2 d) refl)) (four_digits n h)
-        ∙ ap (λ (z : ℤ). Reply (given Offered (Number (with_decimals z d)))) (cut_own (pos 1) refl n h (lit≤ tt) (one_multiple n)))
+        (set_said (one_row i 2 d) [] (setup_for m 0 unnamed) None (one_value i n) m (for_itself m 0 unnamed) u (its_numbers 2 d) (its 2 r) n refl (read_write_writable (its_numbers 2 d) (read_write_is (its_numbers 2 d) refl)) (four_digits n h)
+        ∙ ap (λ (z : ℤ). Some (given Offered (Number (with_decimals z d)))) (cut_own (pos 1) refl n h (lit≤ tt) (one_multiple n)))
 
   -- on `]`: `00000` with `N`
   declined_drawn : eqb i scan_identifier ≡ true → Drawn (travelling (spell_answer (given Declined no_number))) (given Declined no_number)
   declined_drawn u =
       let m = asked body.Up in
-      by_nothing body.Up Declined no_number (scan_no_status i u) (scan_declined [] [] (setup_for m 0 unnamed) Nothing zeros m (for_itself m 0 unnamed) u refl)
+      by_nothing body.Up Declined no_number (scan_no_status i u) (scan_declined [] [] (setup_for m 0 unnamed) None zeros m (for_itself m 0 unnamed) u refl)
 
   -- the values of a scan: a row for each, with identifiers from `A` on, and each number in its place
   module _ (u : eqb i scan_identifier ≡ true) (xs : List Decimal) (f : every fits xs ≡ true) (most-five : length xs ≤ 5) where
@@ -241,7 +238,7 @@ module _ (l a i : ℕ) (pl : is_letter l ≡ true) (pa : is_address a ≡ true) 
     codes : Codes 65 xs
     codes = rising_codes 65 xs (lit≤ tt) (omega arith)
 
-    entry : (k : ℕ) → k < length xs → entry_in (rising_rows 65 xs) [] (named namer k) ≡ Found (its_numbers 1 (nth xs k).decimals)
+    entry : (k : ℕ) → k < length xs → entry_in (rising_rows 65 xs) [] (named namer k) ≡ Some (its_numbers 1 (nth xs k).decimals)
     entry k h = rw (letter_is k (omega arith)) (rising_entry 65 k xs h codes f [])
 
     value : (k : ℕ) → k < length xs → valued (named namer k) ≡ nth xs k
@@ -252,7 +249,7 @@ module _ (l a i : ℕ) (pl : is_letter l ≡ true) (pa : is_address a ≡ true) 
     scan_drawn : (eqb (length xs) 0 || eqb (length xs) 4 || eqb (length xs) 5) ≡ true → eqb (length xs) 0 ≡ false → (x : Content) → scan_of namer valued ≡ x → Drawn (travelling (spell_answer (given Accepted x))) (given Accepted x)
     scan_drawn many some x e =
         drawn asks (a_message body.Query (scan_no_status i u)) (length xs) letters (rising_rows 65 xs) [] (rising_values 65 xs) (given Accepted x)
-        (scan_said (rising_rows 65 xs) [] namer Nothing (rising_values 65 xs) asks (for_itself asks (length xs) letters) u refl some ∙ ap (λ (y : Content). Reply (given Accepted y)) e)
+        (scan_said (rising_rows 65 xs) [] namer None (rising_values 65 xs) asks (for_itself asks (length xs) letters) u refl some ∙ ap (λ (y : Content). Some (given Accepted y)) e)
         (and_both (rising_sound 65 xs (lit< tt) codes f (omega arith)) no_rows) refl
         (readable_scan (rising_rows 65 xs) [] (no-scan-row (rising_rows 65 xs) [] (rising_else 65 scan_identifier xs (omega arith)) (no_rows_none scan_identifier)) namer many
         (λ k h. (its_numbers 1 (nth xs k).decimals, entry k h, read_only_readable (its_numbers 1 (nth xs k).decimals) refl)))

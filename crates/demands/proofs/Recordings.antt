@@ -1,5 +1,6 @@
 -- Demand 3, as one claim over whole recordings: the hearing half is hearing's own theorems, and the playing half follows from them,
 -- since a run with room for every reply obeys the messages heard. Assumes nothing.
+use Rattle.card.specs.declared.Took.{Took}
 use mathlib.Core.Path.{◌≡◌, sym, ap, ◌∙◌, subst}
 use mathlib.Core.Logic.{◌↔◌}
 use mathlib.Core.Bool.{true}
@@ -19,7 +20,7 @@ use Rattle.hearing.proofs.Normal.{heard_normal, normal_normal, normal_same, norm
 use Rattle.card.specs.declared.Card.{Card}
 use Rattle.card.specs.Run.{Played}
 use Rattle.card.specs.Turn.{Turn, turn, stored, Instrument, hears}
-use Rattle.card.specs.Calls.{After, Took, ended, run_call}
+use Rattle.card.specs.Calls.{After, ended, run_call}
 use Rattle.card.proofs.Steps.{run_served}
 use Rattle.card.proofs.Runs.{all, all_end, all_word, all_taken, run_all}
 use Rattle.card.proofs.Plays.{Left, left_by, left_alike}

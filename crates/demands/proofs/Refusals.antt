@@ -1,4 +1,5 @@
 -- Demand 1: what a call comes to by the first of its tests that holds, over any call. Assumes nothing.
+use Rattle.card.specs.declared.Took.{Took}
 use mathlib.Core.Path.{◌≡◌, refl, sym, ap, ◌∙◌, subst}
 use mathlib.Core.Bool.{not}
 use mathlib.Core.List.{List, [], ◌∷◌}
@@ -22,7 +23,7 @@ use Rattle.reply.proofs.Reader.{read_is}
 use Rattle.card.specs.Turn.{turn, play}
 use Rattle.card.specs.Refusals.{card_checks, step_checks}
 use Rattle.card.specs.Cause.{why_to}
-use Rattle.card.specs.Calls.{After, kept, WordAnswer, answered, Took, ended}
+use Rattle.card.specs.Calls.{After, kept, WordAnswer, answered, ended}
 use Rattle.card.proofs.Steps.{step_is, run_is}
 use Rattle.listing.specs.Line.{line}
 use Rattle.listing.proofs.Calls.{line_is}

@@ -1,5 +1,6 @@
 -- Demand 2, the claims on single words and on the writer: what the writer makes is heard, and a run is its words one after the other.
 -- Assumes nothing.
+use Rattle.card.specs.declared.Took.{Took}
 use mathlib.Core.Path.{◌≡◌, refl, sym, ap, ◌∙◌, subst}
 use mathlib.Core.Bool.{true}
 use mathlib.Core.List.{List, [], ◌∷◌, ◌++◌}
@@ -28,7 +29,7 @@ use Rattle.card.specs.Run.{Played, stopped, after}
 use Rattle.card.specs.Turn.{Turn, turn, stored, Instrument, hears, play}
 use Rattle.card.specs.Refusals.{card_checks}
 use Rattle.card.specs.Cause.{why_to}
-use Rattle.card.specs.Calls.{After, WordAnswer, bytes_of, answered, step_call, Took, ended, run_call}
+use Rattle.card.specs.Calls.{After, WordAnswer, bytes_of, answered, step_call, ended, run_call}
 use Rattle.card.proofs.Turns.{turn_card}
 use Rattle.card.proofs.Steps.{all_sound, step_served, served_step, run_served}
 use Rattle.card.proofs.Sounds.{card_stays, offer_stays, values_stay}

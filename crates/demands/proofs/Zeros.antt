@@ -14,8 +14,6 @@ use Rattle.refusal.specs.Check.{Check, first}
 use Rattle.refusal.proofs.Lists.{append_cancel}
 use Rattle.number.proofs.Reading.{read_written, written_read, read_fits, read_number, only_zero}
 use Rattle.message.specs.declared.Message.{Message}
-use Rattle.message.specs.declared.Parsed.{Parsed}
-use Rattle.message.specs.declared.Parsed.TheVariants.{Heard}
 use Rattle.message.specs.Message.{asks_minus_zero, unsigned_zero}
 use Rattle.message.proofs.Messages.{unsigned_message, unsigned_other, zero_message}
 use Rattle.hearing.specs.declared.Pending.{Pending}
@@ -43,6 +41,7 @@ use Rattle.demands.proofs.Cases.{own_forms, both_revisions}
 use Rattle.demands.proofs.Causes.{because_is, by_closed, cause_is, served_is, causes}
 use Rattle.demands.proofs.Offers.{turn_offer}
 use Rattle.demands.proofs.Recordings.{alike, demand_3}
+use Rattle.std.specs.Prelude.{Option, Some}
 
 data_exact : DataExact
 data_exact = record {
@@ -63,15 +62,15 @@ unknown bench maker c values w ws out f g =
 
 module _ (bench maker : List ℤ) (c : Card) (values : List ℤ) (w : ℕ) (out : List ℕ) (s : WordAnswer) (g : (step_call c bench maker values w out).outcome ≡ gave s) where
   -- by the message that the word closes
-  answer_by : (m : Message) → (hear c.pending w).message ≡ Heard m
+  answer_by : (m : Message) → (hear c.pending w).message ≡ Some m
       → s ≡ record { bytes = length (reply_of (act bench maker c.setup c.offer values m).said); cause = because (first (causes_in bench maker c.setup c.offer values m)) }
   answer_by m h =
       let said = turn_reply bench maker c values w
-      ∙ ap (λ (p : Parsed). reply_of (effects bench maker c values p).said) h
+      ∙ ap (λ (p : Option Message). reply_of (effects bench maker c values p).said) h
       ∙ ap (λ (e : Effect). reply_of e.said) (effect_heard bench maker c.setup c.offer values m) in
       served_is bench maker c values w out s g ∙ (λ j. record { bytes = length (said j); cause = why_heard bench maker c values w m h j })
 
-  second_declines : (m : Message) → c.setup.revision ≡ 2 → (hear c.pending w).message ≡ Heard m → is_for c.setup m ≡ true → asks_minus_zero m.body ≡ true → DeclinesZero bench maker c values w out s
+  second_declines : (m : Message) → c.setup.revision ≡ 2 → (hear c.pending w).message ≡ Some m → is_for c.setup m ≡ true → asks_minus_zero m.body ≡ true → DeclinesZero bench maker c values w out s
   second_declines m r h its z =
       let d = zero.second_declines c.setup m c.offer bench maker values (eq-eqb c.setup.revision 2 r) its z in
       let y : s.cause ≡ because (first (causes_in bench maker c.setup c.offer values m)) = ap (λ (x : WordAnswer). x.cause) (answer_by m h) in
@@ -81,13 +80,13 @@ module _ (bench maker : List ℤ) (c : Card) (values : List ℤ) (w : ℕ) (out 
         says_n = (causes.exact bench maker c values w out s g).declined.1 (ap (λ (x : Why). is_one_of x.code causes_of_n) y ∙ d.of_n);
         keeps =
             ap (λ (a : After WordAnswer). a.values) left
-            ∙ ap (stored values) (turn_store bench maker c values w ∙ ap (λ (p : Parsed). (effects bench maker c values p).store) h ∙ ap (λ (e : Effect). e.store) (effect_heard bench maker c.setup c.offer values m) ∙ d.keeps)
+            ∙ ap (stored values) (turn_store bench maker c values w ∙ ap (λ (p : Option Message). (effects bench maker c values p).store) h ∙ ap (λ (e : Effect). e.store) (effect_heard bench maker c.setup c.offer values m) ∙ d.keeps)
             ∙ stored_keep values;
         gone = ap (λ (a : After WordAnswer). a.card.offer) left ∙ turn_offer bench maker c values w m h ∙ d.gone;
       }
 
-  minus_zero_only : s.cause ≡ why_of MinusZero
-      → (c.setup.revision ≡ 2) × ((m : Message) × ((hear c.pending w).message ≡ Heard m) × (is_for c.setup m ≡ true) × (asks_minus_zero m.body ≡ true))
+  minus_zero_only : s.cause ≡ why_of (Some MinusZero)
+      → (c.setup.revision ≡ 2) × ((m : Message) × ((hear c.pending w).message ≡ Some m) × (is_for c.setup m ≡ true) × (asks_minus_zero m.body ≡ true))
   minus_zero_only e =
       let y = sym (cause_is bench maker c values w out s g) ∙ e in
       by_closed bench maker c values w
@@ -101,7 +100,7 @@ module _ (bench maker : List ℤ) (c : Card) (values : List ℤ) (w : ℕ) (out 
 
 first_word_alike : (bench maker : List ℤ) (c : Card) (p : Pending) (values : List ℤ) (w : ℕ) (out : List ℕ) (s s' : WordAnswer) (m m' : Message) → eqb c.setup.revision 2 ≡ false
     → (step_call c bench maker values w out).outcome ≡ gave s → (step_call (with_both c p c.offer) bench maker values w out).outcome ≡ gave s'
-    → (hear c.pending w).message ≡ Heard m → (hear p w).message ≡ Heard m' → unsigned_zero m ≡ unsigned_zero m' → s ≡ s'
+    → (hear c.pending w).message ≡ Some m → (hear p w).message ≡ Some m' → unsigned_zero m ≡ unsigned_zero m' → s ≡ s'
 first_word_alike bench maker c p values w out s s' m m' r g g' h h' e =
     let by : Effect → List Check → WordAnswer = λ x cs. record { bytes = length (reply_of x.said); cause = because (first cs) } in
     let same-act = sym (zero.zeros_act c.setup m r c.offer bench maker values) ∙ ap (act bench maker c.setup c.offer values) e ∙ zero.zeros_act c.setup m' r c.offer bench maker values in

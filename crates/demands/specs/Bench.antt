@@ -1,5 +1,6 @@
 -- The bench cases of document 01, the scan, the neighbours and both zeros of document 02 as tables: each case its exchanges, message by message, and the value of m
 -- before and after.
+use Rattle.card.specs.declared.Took.{Took}
 use Rattle.std.specs.Prelude.{Bool, false, ◌&&◌, List, [], ◌∷◌, ◌++◌, ℕ, eqb, ℤ, pos, negsuc, length, take, set, replicate}
 use Prim.Native.Char.{code}
 use Prim.Native.String.{String}
@@ -13,9 +14,9 @@ use Rattle.reply.specs.Reply.{longest_reply}
 use Rattle.reply.specs.declared.Answer.{Answer}
 use Rattle.reply.specs.Read.{read_call}
 use Rattle.card.specs.declared.Card.{Card}
-use Rattle.act.specs.declared.Offer.TheVariants.{Nothing}
 use Rattle.act.specs.Act.{most_named}
-use Rattle.card.specs.Calls.{After, Took, run_call}
+use Rattle.card.specs.Calls.{After, run_call}
+use Rattle.std.specs.Prelude.{None}
 
 -- "Rows: `J` (2, 1 decimal, step 5, -100 to 100), `M` (1, 1, 1, -1999 to 9999), `Z` (3, 0, 1, 15 to 18), `m` (2, 1, 5, 0 to 1000)."
 unfoldable pub bench_rows : List ℤ
@@ -33,7 +34,7 @@ bench_values m = set (set (set (set (replicate 128 (pos 0)) (code "J") (pos 0)) 
 -- "Card `L`, address 7"; "no message open and no offer"; of this revision, with names for its scan
 unfoldable pub card_with : ℕ → String → Card
 card_with n names =
-    record { setup = record { letter = code "L"; address = 7; count = length (chars names); scan = take most_named (chars names ++ replicate most_named 0); revision = n }; pending = none; offer = Nothing }
+    record { setup = record { letter = code "L"; address = 7; count = length (chars names); scan = take most_named (chars names ++ replicate most_named 0); revision = n }; pending = none; offer = None }
 
 -- a message as sent, and what is answered to it
 pub record Exchange : Type 0 where

@@ -1,5 +1,6 @@
 -- Document 02, ticket 6: "One pair, one recording, many instruments". The claims are about the call `bus::run`, over lists of cards and whole
 -- recordings. `BusRows` goes from the cards to the rows that the call is lent, `Demand1` has its refusals, and `BusCases` its tables.
+use Rattle.card.specs.declared.Took.{Took}
 use Rattle.std.specs.Prelude.{◌≡◌, ◌⊎◌, Bool, true, false, cond, ◌&&◌, List, [], ◌∷◌, ◌++◌, map, ℕ, ◌*◌, ◌≤◌, ◌<◌, eqb, ℤ, length, get_or, take, drop}
 use Rattle.refusal.specs.Lists.{every}
 use Rattle.refusal.specs.Refusal.{Outcome, refused, gave}
@@ -14,7 +15,7 @@ use Rattle.card.specs.declared.Card.{Card}
 use Rattle.card.specs.Run.{Reaction}
 use Rattle.card.specs.Turn.{Instrument}
 use Rattle.card.specs.Refusals.{sound_card}
-use Rattle.card.specs.Calls.{bytes_of, step_call, Took, run_call}
+use Rattle.card.specs.Calls.{bytes_of, step_call, run_call}
 use Rattle.bus.specs.Bus.{joined, instruments, hears_all}
 use Rattle.bus.specs.Refusals.{sound_bus, fits_sheets, sound_parts}
 use Rattle.bus.specs.Calls.{After, bus_call}

@@ -1,4 +1,5 @@
 -- Document 02, ticket 6: many cards on one pair, by tables, as the bench cases are; a bench on which no claim is empty; and all claims together.
+use Rattle.card.specs.declared.Took.{Took}
 use Rattle.std.specs.Prelude.{◌≡◌, Bool, true, ◌&&◌, List, [], ◌∷◌, ◌++◌, map, ℕ, zero, suc, ◌*◌, ltb, eqb, ℤ, pos, length, get_or, take, drop, replicate}
 use Prim.Native.Char.{code}
 use Prim.Native.String.{String}
@@ -8,15 +9,14 @@ use Rattle.wire.specs.Text.{chars}
 use Rattle.wire.specs.Word.{travelling, valid_words}
 use Rattle.hearing.specs.Hearing.{none, added}
 use Rattle.reply.specs.Reply.{longest_reply}
-use Rattle.act.specs.declared.Offer.TheVariants.{Held}
 use Rattle.card.specs.declared.Card.{Card}
-use Rattle.card.specs.Calls.{Took}
 use Rattle.bus.specs.Bus.{joined}
 use Rattle.bus.specs.Calls.{After, bus_call}
 use Rattle.demands.specs.Bench.{bench_rows, bench_values, card_with, Exchange, ◌⇒◌, equal_z, took}
 use Rattle.demands.specs.Demand3.{Wrote}
 use Rattle.demands.specs.Bus.{SoundTogether, picked, EachAlone, ButFor, Isolated, BusDemand3, OnePair}
 use Rattle.demands.specs.BusRows.{RowsKeep}
+use Rattle.act.specs.Act.{held}
 
 -- ---- tables
 
@@ -122,7 +122,7 @@ half_open c = record { setup = c.setup; pending = added none (code "L"); offer =
 
 -- with this value on offer
 unfoldable pub offering : ℕ → ℤ → Card → Card
-offering i z c = record { setup = c.setup; pending = c.pending; offer = Held i z }
+offering i z c = record { setup = c.setup; pending = c.pending; offer = held i z }
 
 -- each card with the values of the bench cases
 unfoldable pub values_for : List Card → List ℤ

@@ -1,9 +1,9 @@
 -- The cards as a host lends them, row behind row: `bus::run` leaves in the rows what the call leaves of the cards, so that they can be lent
 -- again.
+use Rattle.card.specs.declared.Took.{Took}
 use Rattle.std.specs.Prelude.{◌≡◌, true, List, map, ℕ, ℤ, take, drop}
 use Rattle.refusal.specs.Refusal.{gave}
 use Rattle.wire.specs.Word.{valid_words}
-use Rattle.card.specs.Calls.{Took}
 use Rattle.bus.specs.Calls.{After, bus_call}
 use Rattle.bus.specs.Rows.{rows_in, cards_of, is_rows, RowsAfter, rows_call}
 

@@ -2,6 +2,7 @@
 -- from the makers' manuals and our bench notes. Every message our writer makes is heard, where none is open, as the one asked for, and
 -- our reader reads every reply of the card as the answer it gave." The first sentence is what the contracts of `card::step`, `receive`
 -- and `run` say, by equality with `step_call` and `run_call`. The claims here are about those calls, and about the writer's and the reader's.
+use Rattle.card.specs.declared.Took.{Took}
 use Rattle.std.specs.Prelude.{◌≡◌, ◌↔◌, true, false, ◌&&◌, List, [], ◌∷◌, ◌++◌, ℕ, suc, ◌+◌, ◌≤◌, ◌<◌, ℤ, pos, length, get_or, take, drop}
 use Rattle.std.specs.Int.Signed.{le_z}
 use Rattle.refusal.specs.Refusal.{Outcome, refused, gave}
@@ -11,12 +12,10 @@ use Rattle.number.specs.declared.Numeral.{Numeral}
 use Rattle.number.specs.Number.{is_multiple}
 use Rattle.message.specs.declared.Body.TheVariants.{Set}
 use Rattle.message.specs.declared.Message.{Message}
-use Rattle.message.specs.declared.Parsed.TheVariants.{Heard}
 use Rattle.message.specs.Message.{is_message}
 use Rattle.message.specs.Spell.{spell, write_call}
 use Rattle.hearing.specs.Hearing.{most, none, hear, open_after, heard}
 use Rattle.sheet.specs.declared.Row.{Row}
-use Rattle.sheet.specs.declared.Entry.TheVariants.{Found, Missing}
 use Rattle.sheet.specs.Sheet.{sound_sheet}
 use Rattle.sheet.specs.Values.{entry_in}
 use Rattle.reply.specs.declared.Answer.{Answer}
@@ -26,13 +25,13 @@ use Rattle.reply.specs.Reply.{longest_reply, scan_identifier, spell_answer}
 use Rattle.reply.specs.Read.{read_call}
 use Rattle.act.specs.Cause.{is_for}
 use Rattle.act.specs.Act.{no_number, most_named}
-use Rattle.act.specs.declared.Offer.{Offer}
-use Rattle.act.specs.declared.Offer.TheVariants.{Nothing, Held}
-use Rattle.act.specs.declared.Said.TheVariants.{Silence, Reply}
 use Rattle.card.specs.declared.Card.{Card}
 use Rattle.card.specs.Refusals.{sound_offer, no_scan_row}
-use Rattle.card.specs.Calls.{After, WordAnswer, bytes_of, step_call, Took, run_call}
+use Rattle.card.specs.Calls.{After, WordAnswer, bytes_of, step_call, run_call}
 use Rattle.demands.specs.Terms.{Sound, said_to}
+use Rattle.std.specs.Prelude.{None, Option, Some}
+use Rattle.act.specs.Act.{held}
+use Rattle.act.specs.declared.Offer.{Offer}
 
 -- ---- the writer and the reader
 
@@ -50,9 +49,9 @@ module _ (bench maker : List ℤ) (c : Card) (values : List ℤ) (w : ℕ) (out 
 
 -- "our reader reads every reply of the card as the answer it gave"; silence writes nothing
 pub record ReplyRead : Type 0 where
-  pub reads : (bench maker : List ℤ) (c : Card) (values : List ℤ) (w : ℕ) (out : List ℕ) (a : Answer) → Sound bench maker c values → w ≤ 256 → longest_reply ≤ length out → said_to bench maker c values w ≡ Reply a
+  pub reads : (bench maker : List ℤ) (c : Card) (values : List ℤ) (w : ℕ) (out : List ℕ) (a : Answer) → Sound bench maker c values → w ≤ 256 → longest_reply ≤ length out → said_to bench maker c values w ≡ Some a
       → (bytes_of (its bench maker c values w out).outcome ≡ gave (length (spell_answer a))) × (read_call (take (length (spell_answer a)) (its bench maker c values w out).buffer) ≡ gave a)
-  pub silent : (bench maker : List ℤ) (c : Card) (values : List ℤ) (w : ℕ) (out : List ℕ) → Sound bench maker c values → w ≤ 256 → longest_reply ≤ length out → said_to bench maker c values w ≡ Silence
+  pub silent : (bench maker : List ℤ) (c : Card) (values : List ℤ) (w : ℕ) (out : List ℕ) → Sound bench maker c values → w ≤ 256 → longest_reply ≤ length out → said_to bench maker c values w ≡ None
       → (bytes_of (its bench maker c values w out).outcome ≡ gave 0) × ((its bench maker c values w out).buffer ≡ out)
 
 -- a sound card, sheets and values, and a word to which the call replies with these bytes, as this answer
@@ -68,7 +67,7 @@ pub record Drawn (bs : List ℕ) (a : Answer) : Type 0 where
   pub room : length card.pending.chars ≡ most
   pub names_room : length card.setup.scan ≡ most_named
   pub valid : word ≤ 256
-  pub says : said_to bench maker card values word ≡ Reply a
+  pub says : said_to bench maker card values word ≡ Some a
   pub gives : bytes_of (its bench maker card values word out).outcome ≡ gave (length bs)
   pub bytes : take (length bs) (its bench maker card values word out).buffer ≡ bs
 
@@ -81,7 +80,7 @@ pub record ReaderExact : Type 0 where
 -- ---- offers
 
 -- a sound card with nothing on offer, sound values, and a word that closes a Type 3 message for this card and leaves this offer
-pub record LeftBy (bench maker : List ℤ) (o : Offer) : Type 0 where
+pub record LeftBy (bench maker : List ℤ) (o : Option Offer) : Type 0 where
   pub card : Card
   pub values : List ℤ
   pub word : ℕ
@@ -93,8 +92,8 @@ pub record LeftBy (bench maker : List ℤ) (o : Offer) : Type 0 where
   -- as in Drawn
   pub room : length card.pending.chars ≡ most
   pub names_room : length card.setup.scan ≡ most_named
-  pub nothing_before : card.offer ≡ Nothing
-  pub closes : (hear card.pending word).message ≡ Heard message
+  pub nothing_before : card.offer ≡ None
+  pub closes : (hear card.pending word).message ≡ Some message
   pub is_ours : is_for card.setup message ≡ true
   pub is_type_3 : message.body ≡ Set number
   pub gives : bytes_of (its bench maker card values word out).outcome ≡ gave bytes
@@ -102,7 +101,7 @@ pub record LeftBy (bench maker : List ℤ) (o : Offer) : Type 0 where
 
 -- number 1: under sound sheets without a row for `]` an offer is sound exactly when a Type 3 can leave it; with such a row no card is sound
 pub record OfferReachable : Type 0 where
-  pub reachable : (bench maker : List ℤ) → (sound_sheet bench && sound_sheet maker) ≡ true → no_scan_row bench maker ≡ true → (i : ℕ) (z : ℤ) → (sound_offer bench maker (Held i z) ≡ true) ↔ LeftBy bench maker (Held i z)
+  pub reachable : (bench maker : List ℤ) → (sound_sheet bench && sound_sheet maker) ≡ true → no_scan_row bench maker ≡ true → (i : ℕ) (z : ℤ) → (sound_offer bench maker (held i z) ≡ true) ↔ LeftBy bench maker (held i z)
   pub no_card : (bench maker : List ℤ) → no_scan_row bench maker ≡ false → (c : Card) (values : List ℤ) → Sound bench maker c values → ⊥
 
 -- what is offered for a number n is a multiple of the row's step, not above n, and no multiple lies between
@@ -114,14 +113,14 @@ pub record NotAbove (n z : ℤ) (r : Row) : Type 0 where
 -- for a message for this card; one for another leaves the offer that was there, whatever its number
 pub record NeverUp : Type 0 where
   pub never_up : (bench maker : List ℤ) (c : Card) (values : List ℤ) (w : ℕ) (out : List ℕ) (k : ℕ) (m : Message) (x : Numeral) (z : ℤ) (r : Row) → bytes_of (its bench maker c values w out).outcome ≡ gave k
-      → (hear c.pending w).message ≡ Heard m → is_for c.setup m ≡ true → m.body ≡ Set x → entry_in bench maker m.identifier ≡ Found r → (its bench maker c values w out).card.offer ≡ Held m.identifier z → NotAbove x.number z r
+      → (hear c.pending w).message ≡ Some m → is_for c.setup m ≡ true → m.body ≡ Set x → entry_in bench maker m.identifier ≡ Some r → (its bench maker c values w out).card.offer ≡ held m.identifier z → NotAbove x.number z r
 
 -- ---- words
 
 -- a word leaves a sound card with sound values sound, and every place without a row as it was
 pub record StaysSound : Type 0 where
   pub stays : (bench maker : List ℤ) (c : Card) (values : List ℤ) (w : ℕ) (out : List ℕ) → Sound bench maker c values → Sound bench maker (its bench maker c values w out).card (its bench maker c values w out).values
-  pub untouched : (bench maker : List ℤ) (c : Card) (values : List ℤ) (w : ℕ) (out : List ℕ) (i : ℕ) → Sound bench maker c values → entry_in bench maker i ≡ Missing → get_or (its bench maker c values w out).values i (pos 0) ≡ get_or values i (pos 0)
+  pub untouched : (bench maker : List ℤ) (c : Card) (values : List ℤ) (w : ℕ) (out : List ℕ) (i : ℕ) → Sound bench maker c values → entry_in bench maker i ≡ None → get_or (its bench maker c values w out).values i (pos 0) ≡ get_or values i (pos 0)
 
 -- one word and so many bytes more than a run took
 abbrev pub one_more : ℕ → Outcome Took → Outcome Took

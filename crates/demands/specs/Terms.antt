@@ -6,10 +6,11 @@ use Rattle.refusal.specs.Call.{Call}
 use Rattle.hearing.specs.Hearing.{hear}
 use Rattle.sheet.specs.Sheet.{sound_sheet}
 use Rattle.sheet.specs.Values.{sound_values}
-use Rattle.act.specs.declared.Said.{Said}
 use Rattle.card.specs.declared.Card.{Card}
 use Rattle.card.specs.Turn.{Turn, effect_of, turn, stored}
 use Rattle.card.specs.Refusals.{sound_card, sound_offer, sound_scan}
+use Rattle.std.specs.Prelude.{Option}
+use Rattle.reply.specs.declared.Answer.{Answer}
 
 -- document 01: "A card, sheets and values are sound where numbers 1, 2 and 3 don't hold of them."
 pub record Sound (bench maker : List ℤ) (c : Card) (values : List ℤ) : Type 0 where
@@ -33,7 +34,7 @@ wrote_these xs call = gave_count call.outcome && same eqb (take (length xs) call
     gave_count (gave n) = eqb n (length xs)
 
 -- what the card says to a word
-unfoldable pub said_to : List ℤ → List ℤ → Card → List ℤ → ℕ → Said
+unfoldable pub said_to : List ℤ → List ℤ → Card → List ℤ → ℕ → Option Answer
 said_to bench maker c values w = (effect_of bench maker c.setup c.offer values (hear c.pending w).message).said
 
 -- document 01: "Each word meets the card and values that the word before it left": all the replies together

@@ -1,6 +1,6 @@
 -- The trace over the calls for many words and for one: it is a run, its notes are those of the words that it took, and what is noted of a
 -- word is what the single word's call answers there.
-use Rattle.std.specs.Prelude.{◌≡◌, true, false, List, [], ◌∷◌, ℕ, ◌*◌, ◌≤◌, ℤ, length}
+use Rattle.std.specs.Prelude.{◌≡◌, true, false, List, [], ◌∷◌, ℕ, ◌*◌, ◌≤◌, ℤ, length, Some}
 use Rattle.refusal.specs.Refusal.{gave}
 use Rattle.refusal.specs.Check.{first}
 use Rattle.refusal.specs.Buffer.{laid}
@@ -30,4 +30,4 @@ pub record Traces : Type 0 where
       → (step_call i.card bench maker i.values w out).outcome ≡ gave a → closes (action_of i.card.pending w) ≡ true → note_to bench maker i k w ≡ note_of i k a ∷ []
   -- any other is not noted, and its single call answers that it closed none
   pub open_as_a_step : (bench maker : List ℤ) (i : Instrument) (k w : ℕ) (out : List ℕ) (a : WordAnswer)
-      → (step_call i.card bench maker i.values w out).outcome ≡ gave a → closes (action_of i.card.pending w) ≡ false → (note_to bench maker i k w ≡ []) × (a.cause ≡ why_of NoMessageClosed)
+      → (step_call i.card bench maker i.values w out).outcome ≡ gave a → closes (action_of i.card.pending w) ≡ false → (note_to bench maker i k w ≡ []) × (a.cause ≡ why_of (Some NoMessageClosed))

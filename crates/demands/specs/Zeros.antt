@@ -12,7 +12,6 @@ use Rattle.number.specs.declared.Data.TheVariants.{Number}
 use Rattle.number.specs.Data.{with_decimals, fits, is_minus_zero, numeral, minus_zero_with, fits_numeral, spell_data, spell_numeral, read_data}
 use Rattle.message.specs.declared.Body.TheVariants.{Set}
 use Rattle.message.specs.declared.Message.{Message}
-use Rattle.message.specs.declared.Parsed.TheVariants.{Heard}
 use Rattle.message.specs.Message.{star, is_letter, is_address, is_identifier, asks_minus_zero, unsigned_zero, no_minus_zero, is_message}
 use Rattle.message.specs.Prefix.{message}
 use Rattle.message.specs.Spell.{spell_address}
@@ -24,7 +23,6 @@ use Rattle.reply.specs.declared.Mark.{Mark}
 use Rattle.reply.specs.declared.Mark.TheVariants.{Declined}
 use Rattle.reply.specs.Reply.{mark_of}
 use Rattle.reply.specs.Read.{read_call}
-use Rattle.act.specs.declared.Offer.TheVariants.{Nothing}
 use Rattle.act.specs.declared.causes.Cause.TheVariants.{MinusZero}
 use Rattle.act.specs.Cause.{why_of, is_for, up_to_minus_zero, is_one_of}
 use Rattle.card.specs.declared.Card.{Card}
@@ -33,6 +31,7 @@ use Rattle.card.specs.Calls.{After, revised, revised_after, kept, WordAnswer, st
 use Rattle.listing.specs.Line.{line}
 use Rattle.demands.specs.Terms.{Sound, replies, wrote_these}
 use Rattle.demands.specs.Demand3.{Wrote, PlayedAlike}
+use Rattle.std.specs.Prelude.{None, Some}
 
 -- ---- five digits, for every count of decimals at once
 
@@ -59,7 +58,7 @@ module _ (bench maker : List ℤ) (c : Card) (values : List ℤ) (w : ℕ) (out 
     pub cause : is_one_of s.cause.code up_to_minus_zero ≡ true
     pub says_n : (a : Answer) × (read_call (take s.bytes its.buffer) ≡ gave a) × (a.mark ≡ Declined)
     pub keeps : its.values ≡ values
-    pub gone : its.card.offer ≡ Nothing
+    pub gone : its.card.offer ≡ None
 
 pub record Revisions : Type 0 where
   -- "an unknown revision is number 1", in its first place: whatever the sheets, values, words and room
@@ -72,13 +71,13 @@ pub record Revisions : Type 0 where
   -- and two words that close messages alike but for it give the same bytes and the same cause
   pub first_word_alike : (bench maker : List ℤ) (c : Card) (p : Pending) (values : List ℤ) (w : ℕ) (out : List ℕ) (s s' : WordAnswer) (m m' : Message) → c.setup.revision ≡ 1
       → (step_call c bench maker values w out).outcome ≡ gave s → (step_call (with_both c p c.offer) bench maker values w out).outcome ≡ gave s'
-      → (hear c.pending w).message ≡ Heard m → (hear p w).message ≡ Heard m' → unsigned_zero m ≡ unsigned_zero m' → s ≡ s'
+      → (hear c.pending w).message ≡ Some m → (hear p w).message ≡ Some m' → unsigned_zero m ≡ unsigned_zero m' → s ≡ s'
   -- "the second answers a Type 3 of minus zero with `N`"
   pub second_declines : (bench maker : List ℤ) (c : Card) (values : List ℤ) (w : ℕ) (out : List ℕ) (s : WordAnswer) (m : Message) → (step_call c bench maker values w out).outcome ≡ gave s → c.setup.revision ≡ 2
-      → (hear c.pending w).message ≡ Heard m → is_for c.setup m ≡ true → asks_minus_zero m.body ≡ true → DeclinesZero bench maker c values w out s
+      → (hear c.pending w).message ≡ Some m → is_for c.setup m ≡ true → asks_minus_zero m.body ≡ true → DeclinesZero bench maker c values w out s
   -- and only the second, only then, has that cause
-  pub minus_zero_only : (bench maker : List ℤ) (c : Card) (values : List ℤ) (w : ℕ) (out : List ℕ) (s : WordAnswer) → (step_call c bench maker values w out).outcome ≡ gave s → s.cause ≡ why_of MinusZero
-      → (c.setup.revision ≡ 2) × ((m : Message) × ((hear c.pending w).message ≡ Heard m) × (is_for c.setup m ≡ true) × (asks_minus_zero m.body ≡ true))
+  pub minus_zero_only : (bench maker : List ℤ) (c : Card) (values : List ℤ) (w : ℕ) (out : List ℕ) (s : WordAnswer) → (step_call c bench maker values w out).outcome ≡ gave s → s.cause ≡ why_of (Some MinusZero)
+      → (c.setup.revision ≡ 2) × ((m : Message) × ((hear c.pending w).message ≡ Some m) × (is_for c.setup m ≡ true) × (asks_minus_zero m.body ≡ true))
   -- both agree on every recording without minus zero, refused or not, and on every such word, its cause too
   pub run_agrees : (bench maker : List ℤ) (c : Card) (values : List ℤ) (ws out : List ℕ) → no_minus_zero (heard_from c.pending ws) ≡ true
       → run_call (revised 2 c) bench maker values ws out ≡ revised_after 2 (run_call (revised 1 c) bench maker values ws out)

@@ -10,13 +10,13 @@ use lib.Dec.{ltb}
 use lib.ListN.{length, get_or, drop, drop_of_length-le, length-set}
 use lib.Seq.{drop-cons}
 use Rattle.refusal.proofs.Logic.{choice}
-use Rattle.message.specs.declared.Parsed.TheVariants.{Unheard}
 use Rattle.message.specs.Prefix.{parse}
 use Rattle.hearing.specs.declared.Pending.{Pending}
 use Rattle.hearing.specs.declared.Action.{Action}
 use Rattle.hearing.specs.declared.Action.TheVariants.{Ignore, Open, Add, Close, Drop}
 use Rattle.hearing.specs.Hearing.{most, none, added, open_of, action_of, perform, hear, closes}
-use Rattle.hearing.specs.Inner.{chars_of, Reached, left_by, to_close}
+use Rattle.hearing.specs.Inner.{Reached, left_by, to_close}
+use Rattle.std.specs.Prelude.{None}
 
 module _ (p : Pending) (ws : List ℕ) (i : ℕ) where
   -- the next word, and what it does
@@ -55,11 +55,11 @@ unfolding hear perform
 close_hears p w e = rw e refl
 
 -- what keeps a message open, opens one or drops one is not heard
-pub other_unheard : (p : Pending) (w : ℕ) → closes (action_of p w) ≡ false → (hear p w).message ≡ Unheard
+pub other_unheard : (p : Pending) (w : ℕ) → closes (action_of p w) ≡ false → (hear p w).message ≡ None
 unfolding hear perform
 other_unheard p w e = go (action_of p w) e
   where
-    go : (a : Action) → closes a ≡ false → (perform p a).message ≡ Unheard
+    go : (a : Action) → closes a ≡ false → (perform p a).message ≡ None
     go Ignore f = refl
     go (Open c) f = refl
     go (Add c) f = refl
@@ -88,7 +88,7 @@ hear_long p w e = go (action_of p w)
     go Drop = refl
 
 -- whatever a word does, ten places stay ten
-pub left_long : (p : Pending) (w : ℕ) → length p.chars ≡ most → length (chars_of p w) ≡ most
+pub left_long : (p : Pending) (w : ℕ) → length p.chars ≡ most → length (left_by p (action_of p w)).chars ≡ most
 unfolding left_by hear
 left_long p w e = choice (λ (q : Pending). length q.chars ≡ most) (closes (action_of p w)) (λ t. e) (λ t. hear_long p w e)
 
@@ -109,7 +109,7 @@ module _ (ws : List ℕ) where
 
   -- what every unheard word keeps holds where the words reach
   module _ (P : Pending → ℕ → Type 0)
-      (keeps : (p : Pending) (i : ℕ) → i < length ws → (hear p (get_or ws i 0)).message ≡ Unheard → P p i → P (hear p (get_or ws i 0)).pending (i + 1)) where
+      (keeps : (p : Pending) (i : ℕ) → i < length ws → (hear p (get_or ws i 0)).message ≡ None → P p i → P (hear p (get_or ws i 0)).pending (i + 1)) where
     along : (rest : List ℕ) (p : Pending) (i : ℕ) → drop i ws ≡ rest → P p i → P (to_close p rest i).pending (to_close p rest i).at
     unfolding to_close
     along [] p i e h = h
@@ -117,7 +117,7 @@ module _ (ws : List ℕ) where
         let f = word_at i x rest e in
         choice (λ (r : Reached). P r.pending r.at) (closes (action_of p x)) (λ t. h)
         (λ t. along rest (hear p x).pending (i + 1) (sym f.2)
-        (subst (λ (w : ℕ). P (hear p w).pending (i + 1)) (sym f.1) (keeps p i f.0 (subst (λ (w : ℕ). (hear p w).message ≡ Unheard) f.1 (other_unheard p x t)) h)))
+        (subst (λ (w : ℕ). P (hear p w).pending (i + 1)) (sym f.1) (keeps p i f.0 (subst (λ (w : ℕ). (hear p w).message ≡ None) f.1 (other_unheard p x t)) h)))
 
     pub reached : (p : Pending) (i : ℕ) → P p i → P (to_close p (drop i ws) i).pending (to_close p (drop i ws) i).at
     reached p i h = along (drop i ws) p i refl h

@@ -14,8 +14,6 @@ use Rattle.refusal.proofs.Lists.{Each}
 use Rattle.wire.specs.Word.{with_parity, travelling}
 use Rattle.wire.proofs.Words.{travels, travelling_append}
 use Rattle.message.specs.declared.Message.{Message}
-use Rattle.message.specs.declared.Parsed.{Parsed}
-use Rattle.message.specs.declared.Parsed.TheVariants.{Heard, Unheard}
 use Rattle.message.specs.Message.{star, is_letter, is_message}
 use Rattle.message.specs.Prefix.{parse}
 use Rattle.message.specs.Spell.{spell_address, spell_body, spell}
@@ -27,6 +25,7 @@ use Rattle.hearing.specs.declared.Action.{Action}
 use Rattle.hearing.specs.declared.Action.TheVariants.{Ignore, Open, Add, Close, Drop}
 use Rattle.hearing.specs.declared.Hearing.{Hearing}
 use Rattle.hearing.specs.Hearing.{most, none, added, open_of, opening, continuing, action_of, perform, hear, before, heard_from, open_after, heard}
+use Rattle.std.specs.Prelude.{None, Option, Some}
 
 -- ---- the open message as a list of characters
 
@@ -58,7 +57,7 @@ added_holds p cs c h l =
 
 -- ---- one word
 
-pub hear_open : (c : ℕ) → is_letter c ≡ true → hear none (with_parity c) ≡ record { pending = added none c; message = Unheard }
+pub hear_open : (c : ℕ) → is_letter c ≡ true → hear none (with_parity c) ≡ record { pending = added none c; message = None }
 unfolding hear perform action_of opening none
 hear_open c e = rw (travels c (plain_letter c e).small, e)
 
@@ -67,7 +66,7 @@ module _ (p : Pending) (n : 1 ≤ p.len) where
   is_open : eqb p.len 0 ≡ false
   is_open = ne_eqb p.len 0 (λ e. omega arith)
 
-  pub hear_add : (c : ℕ) → PlainChar c → hear p (with_parity c) ≡ record { pending = added p c; message = Unheard }
+  pub hear_add : (c : ℕ) → PlainChar c → hear p (with_parity c) ≡ record { pending = added p c; message = None }
   unfolding hear perform action_of continuing
   hear_add c q = rw (is_open, travels c q.small, q.no_star)
 
@@ -89,19 +88,19 @@ pub heard_word : (p : Pending) (w : ℕ) (ws : List ℕ) → heard_from p (w ∷
 unfolding heard_from
 heard_word p w ws = refl
 
-pub before_heard : (m : Message) (ms : List Message) → before (Heard m) ms ≡ m ∷ ms
+pub before_heard : (m : Message) (ms : List Message) → before (Some m) ms ≡ m ∷ ms
 unfolding before
 before_heard m ms = refl
 
-pub before_unheard : (ms : List Message) → before Unheard ms ≡ ms
+pub before_unheard : (ms : List Message) → before None ms ≡ ms
 unfolding before
 before_unheard ms = refl
 
 -- what is heard in two recordings, one behind the other
-before_both : (o : Parsed) (ms ns : List Message) → before o (ms ++ ns) ≡ before o ms ++ ns
+before_both : (o : Option Message) (ms ns : List Message) → before o (ms ++ ns) ≡ before o ms ++ ns
 unfolding before
-before_both (Heard m) ms ns = refl
-before_both Unheard ms ns = refl
+before_both (Some m) ms ns = refl
+before_both None ms ns = refl
 
 pub heard_both : (p : Pending) (xs ys : List ℕ) → heard_from p (xs ++ ys) ≡ heard_from p xs ++ heard_from (open_after p xs) ys
 unfolding heard_from open_after
@@ -118,7 +117,7 @@ pub record Leads (p : Pending) (ws : List ℕ) (q : Pending) (rest : List ℕ) :
 then : {p q r : Pending} {xs ys zs : List ℕ} → Leads p xs q ys → Leads q ys r zs → Leads p xs r zs
 then a b = record { hears = a.hears ∙ b.hears; opens = a.opens ∙ b.opens }
 
-pub leads_unheard : (p : Pending) (w : ℕ) (ws : List ℕ) (q : Pending) → hear p w ≡ record { pending = q; message = Unheard } → Leads p (w ∷ ws) q ws
+pub leads_unheard : (p : Pending) (w : ℕ) (ws : List ℕ) (q : Pending) → hear p w ≡ record { pending = q; message = None } → Leads p (w ∷ ws) q ws
 unfolding heard_from open_after before
 leads_unheard p w ws q e = record {
   hears = ap (λ (h : Hearing). before h.message (heard_from h.pending ws)) e;
@@ -188,7 +187,7 @@ spelled m rest e =
       hears =
           ap (λ (l : List ℕ). heard_from none (travelling l ++ rest)) w
           ∙ h.hears
-          ∙ ap (λ (x : Parsed). before x (heard_from none rest)) (ap parse (sym (open_first m)) ∙ parse_spell m e)
+          ∙ ap (λ (x : Option Message). before x (heard_from none rest)) (ap parse (sym (open_first m)) ∙ parse_spell m e)
           ∙ before_heard m (heard_from none rest);
       opens = ap (λ (l : List ℕ). open_after none (travelling l ++ rest)) w ∙ h.opens;
     }
@@ -210,10 +209,10 @@ hear_message p w = performed p (action_of p w)
 abbrev pub Messages : List Message → Type 0
 Messages ms = Each (λ (m : Message). is_message m ≡ true) ms
 
-messages_before : (o : Parsed) (ms : List Message) → Heard-is o → Messages ms → Messages (before o ms)
+messages_before : (o : Option Message) (ms : List Message) → Heard-is o → Messages ms → Messages (before o ms)
 unfolding before
-messages_before (Heard m) ms e h = (e, h)
-messages_before Unheard ms e h = h
+messages_before (Some m) ms e h = (e, h)
+messages_before None ms e h = h
 
 pub heard_messages : (p : Pending) (ws : List ℕ) → Messages (heard_from p ws)
 unfolding heard_from

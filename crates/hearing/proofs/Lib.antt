@@ -8,3 +8,4 @@ pub mod Loops
 pub mod Shortest
 pub mod Unopened
 pub mod Signs
+pub mod Words

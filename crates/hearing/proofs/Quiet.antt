@@ -6,11 +6,8 @@ use Prim.Native.Nat.{ℕ}
 use borrow.Author.Tests.{eq-eqb, eqb-true}
 use lib.Dec.{eqb}
 use Rattle.refusal.proofs.Logic.{choice, by-test}
-use Rattle.wire.specs.declared.Received.{Received}
-use Rattle.wire.specs.declared.Received.TheVariants.{Character, Nothing}
 use Rattle.wire.specs.Word.{received}
 use Rattle.message.specs.declared.Message.{Message}
-use Rattle.message.specs.declared.Parsed.TheVariants.{Heard, Unheard}
 use Rattle.message.specs.Message.{is_letter}
 use Rattle.message.specs.Prefix.{parse}
 use Rattle.message.proofs.Short.{unheard}
@@ -18,6 +15,7 @@ use Rattle.hearing.specs.declared.Pending.{Pending}
 use Rattle.hearing.specs.declared.Action.{Action}
 use Rattle.hearing.specs.declared.Action.TheVariants.{Ignore, Open, Add, Close, Drop}
 use Rattle.hearing.specs.Hearing.{none, open_of, opening, continuing, action_of, perform, hear, before, heard_from}
+use Rattle.std.specs.Prelude.{None, Option, Some}
 
 -- what is heard by an action, and then
 heard_by : Pending → List ℕ → Action → List Message
@@ -29,10 +27,10 @@ module _ (p : Pending) (e : p.len ≡ 0) where
   unfolding action_of
   opens w = rw (eq-eqb p.len 0 e)
 
-  alike : (ws : List ℕ) → heard_from p ws ≡ heard_from none ws → (r : Received) → heard_by p ws (opening r) ≡ heard_by none ws (opening r)
+  alike : (ws : List ℕ) → heard_from p ws ≡ heard_from none ws → (r : Option ℕ) → heard_by p ws (opening r) ≡ heard_by none ws (opening r)
   unfolding heard_by opening perform
-  alike ws h (Character c) = choice (λ (a : Action). heard_by p ws a ≡ heard_by none ws a) (is_letter c) (λ t. refl) (λ t. ap (λ (ms : List Message). before Unheard ms) h)
-  alike ws h Nothing = ap (λ (ms : List Message). before Unheard ms) h
+  alike ws h (Some c) = choice (λ (a : Action). heard_by p ws a ≡ heard_by none ws a) (is_letter c) (λ t. refl) (λ t. ap (λ (ms : List Message). before None ms) h)
+  alike ws h None = ap (λ (ms : List Message). before None ms) h
 
 none_opens : (w : ℕ) → action_of none w ≡ opening (received w)
 unfolding none
@@ -59,7 +57,7 @@ pub close_hears : (p : Pending) (w : ℕ) → action_of p w ≡ Close → (hear 
 unfolding hear perform
 close_hears p w e = ap (λ (a : Action). (perform p a).message) e
 
-performed : (p : Pending) (a : Action) (m : Message) → (perform p a).message ≡ Heard m → a ≡ Close
+performed : (p : Pending) (a : Action) (m : Message) → (perform p a).message ≡ Some m → a ≡ Close
 unfolding perform
 performed p Ignore m e = absurd (unheard e)
 performed p (Open c) m e = absurd (unheard e)
@@ -67,10 +65,10 @@ performed p (Add c) m e = absurd (unheard e)
 performed p Close m e = refl
 performed p Drop m e = absurd (unheard e)
 
-pub heard_close : (p : Pending) (w : ℕ) (m : Message) → (hear p w).message ≡ Heard m → action_of p w ≡ Close
+pub heard_close : (p : Pending) (w : ℕ) (m : Message) → (hear p w).message ≡ Some m → action_of p w ≡ Close
 unfolding hear
 heard_close p w m e = performed p (action_of p w) m e
 
-pub heard_closes : (p : Pending) (w : ℕ) (m : Message) → (hear p w).message ≡ Heard m → (hear p w).pending ≡ none
+pub heard_closes : (p : Pending) (w : ℕ) (m : Message) → (hear p w).message ≡ Some m → (hear p w).pending ≡ none
 unfolding hear perform
 heard_closes p w m e = ap (λ (a : Action). (perform p a).pending) (heard_close p w m e)

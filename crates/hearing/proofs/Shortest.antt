@@ -11,13 +11,9 @@ use lib.Dec.{ltb, eqb}
 use lib.ListN.{length}
 use Rattle.refusal.proofs.Logic.{choice, by-test}
 use Rattle.refusal.proofs.Longer.{SameOrLonger, not_shorter, as_long_is_same, longer_than_none, longer_by_rest, longer_then, longer_behind, longer_ahead}
-use Rattle.wire.specs.declared.Received.{Received}
-use Rattle.wire.specs.declared.Received.TheVariants.{Character, Nothing}
 use Rattle.wire.specs.Word.{with_parity, received, travelling}
 use Rattle.wire.proofs.Words.{only_word, travelling_none, travelling_one, travelling_append, travelling_longer}
 use Rattle.message.specs.declared.Message.{Message}
-use Rattle.message.specs.declared.Parsed.{Parsed}
-use Rattle.message.specs.declared.Parsed.TheVariants.{Heard, Unheard}
 use Rattle.message.specs.Message.{star, is_letter}
 use Rattle.message.specs.Prefix.{parse}
 use Rattle.message.proofs.Short.{spelled_or_longer}
@@ -31,6 +27,7 @@ use Rattle.hearing.specs.Inner.{worth}
 use Rattle.hearing.proofs.Heard.{OpenChars, none_holds, added_holds}
 use Rattle.hearing.proofs.Normal.{normal_words}
 use Rattle.hearing.proofs.Loops.{normal_from, words_before, normal_whole}
+use Rattle.std.specs.Prelude.{None, Option, Some}
 
 -- ---- one word
 
@@ -41,13 +38,13 @@ record Shortens (cs : List ℕ) (w : ℕ) (h : Hearing) : Type 0 where
   longer : SameOrLonger (worth h.message ++ travelling left) (travelling cs ++ (w ∷ []))
 
 -- none is open afterwards
-shortens_none : (cs : List ℕ) (w : ℕ) (m : Parsed) → SameOrLonger (worth m) (travelling cs ++ (w ∷ [])) → Shortens cs w (record { pending = none; message = m })
+shortens_none : (cs : List ℕ) (w : ℕ) (m : Option Message) → SameOrLonger (worth m) (travelling cs ++ (w ∷ [])) → Shortens cs w (record { pending = none; message = m })
 shortens_none cs w m h = record { left = []; holds = none_holds; longer = rw (travelling_none, append-nil) h }
 
 -- and nothing is written
-shortens_nothing : (cs : List ℕ) (w : ℕ) → Shortens cs w (record { pending = none; message = Unheard })
+shortens_nothing : (cs : List ℕ) (w : ℕ) → Shortens cs w (record { pending = none; message = None })
 unfolding worth
-shortens_nothing cs w = shortens_none cs w Unheard (longer_than_none (travelling cs ++ (w ∷ [])))
+shortens_nothing cs w = shortens_none cs w None (longer_than_none (travelling cs ++ (w ∷ [])))
 
 module _ (p : Pending) (cs : List ℕ) (o : OpenChars p cs) (w : ℕ) where
   ignored : Shortens cs w (perform p Ignore)
@@ -84,21 +81,21 @@ module _ (p : Pending) (cs : List ℕ) (o : OpenChars p cs) (w : ℕ) where
   unfolding perform worth
   closed e = rw o.open_is (shortens_none cs w (parse cs) (go (parse cs) refl))
     where
-      go : (m : Parsed) → parse cs ≡ m → SameOrLonger (worth m) (travelling cs ++ (w ∷ []))
-      go (Heard m) q = rw (e, ← travelling_one star, ← travelling_append cs (star ∷ [])) (travelling_longer (spelled_or_longer cs m q))
-      go Unheard q = longer_than_none (travelling cs ++ (w ∷ []))
+      go : (m : Option Message) → parse cs ≡ m → SameOrLonger (worth m) (travelling cs ++ (w ∷ []))
+      go (Some m) q = rw (e, ← travelling_one star, ← travelling_append cs (star ∷ [])) (travelling_longer (spelled_or_longer cs m q))
+      go None q = longer_than_none (travelling cs ++ (w ∷ []))
 
-  by_opening : cs ≡ [] → (r : Received) → ((c : ℕ) → r ≡ Character c → w ≡ with_parity c) → Shortens cs w (perform p (opening r))
+  by_opening : cs ≡ [] → (r : Option ℕ) → ((c : ℕ) → r ≡ Some c → w ≡ with_parity c) → Shortens cs w (perform p (opening r))
   unfolding opening
-  by_opening z (Character c) f = choice (λ (a : Action). Shortens cs w (perform p a)) (is_letter c) (λ t. opened c (f c refl) z) (λ t. ignored)
-  by_opening z Nothing f = ignored
+  by_opening z (Some c) f = choice (λ (a : Action). Shortens cs w (perform p a)) (is_letter c) (λ t. opened c (f c refl) z) (λ t. ignored)
+  by_opening z None f = ignored
 
-  by_continuing : (r : Received) → ((c : ℕ) → r ≡ Character c → w ≡ with_parity c) → Shortens cs w (perform p (continuing r))
+  by_continuing : (r : Option ℕ) → ((c : ℕ) → r ≡ Some c → w ≡ with_parity c) → Shortens cs w (perform p (continuing r))
   unfolding continuing
-  by_continuing (Character c) f =
+  by_continuing (Some c) f =
       choice (λ (a : Action). Shortens cs w (perform p a)) (eqb c star)
       (λ t. closed (f c refl ∙ ap with_parity (eqb-true c star t))) (λ t. add c (f c refl))
-  by_continuing Nothing f = dropped
+  by_continuing None f = dropped
 
   shortens : Shortens cs w (hear p w)
   unfolding hear action_of

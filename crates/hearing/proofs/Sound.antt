@@ -14,12 +14,9 @@ use lib.Seq.{drop-set-lt, get_or-set_other, take-append_seam, drop-append_seam}
 use Rattle.refusal.specs.Lists.{every}
 use Rattle.refusal.proofs.Logic.{ands, and_both, not_is, is_not, choice, by-test}
 use Rattle.refusal.proofs.Lists.{every_none, every_first, every_set, every_drop, every_replicate}
-use Rattle.wire.specs.declared.Received.{Received}
-use Rattle.wire.specs.declared.Received.TheVariants.{Character, Nothing}
 use Rattle.wire.specs.Word.{with_parity, received}
 use Rattle.wire.proofs.Words.{received_small}
 use Rattle.message.specs.declared.Message.{Message}
-use Rattle.message.specs.declared.Parsed.TheVariants.{Heard}
 use Rattle.message.specs.Message.{star, is_letter, is_message}
 use Rattle.message.specs.Prefix.{parse}
 use Rattle.message.specs.Spell.{spell_address, spell_body, spell_open}
@@ -33,6 +30,7 @@ use Rattle.hearing.specs.declared.Hearing.{Hearing}
 use Rattle.hearing.specs.Hearing.{most, none, added, open_of, opening, continuing, action_of, perform, hear}
 use Rattle.hearing.specs.Sound.{plain_char, plain, zeros, sound_pending}
 use Rattle.hearing.proofs.Heard.{OpenChars, hear_star}
+use Rattle.std.specs.Prelude.{None, Option, Some}
 
 -- ---- a sound open message, by its rules
 
@@ -97,12 +95,12 @@ begins zero cs f e = absurd (f refl)
 begins (suc n) [] f e = absurd (false≢true e)
 begins (suc n) (c ∷ cs) f e = record { letter = c; rest = take n cs; is = refl; is-letter = e }
 
-closes_none : (r : Received) → opening r ≡ Close → ⊥
+closes_none : (r : Option ℕ) → opening r ≡ Close → ⊥
 unfolding opening
-closes_none (Character c) =
+closes_none (Some c) =
     choice (λ (a : Action). a ≡ Close → ⊥) (is_letter c)
     (λ t e. let z : ◌≡◌ {A = ℕ} 0 1 = cc in omega arith) (λ t e. let z : ◌≡◌ {A = ℕ} 0 1 = cc in omega arith)
-closes_none Nothing = λ e. let z : ◌≡◌ {A = ℕ} 0 1 = cc in omega arith
+closes_none None = λ e. let z : ◌≡◌ {A = ℕ} 0 1 = cc in omega arith
 
 pub open_begins : (p : Pending) (w : ℕ) → sound_pending p ≡ true → action_of p w ≡ Close → Begins (open_of p)
 unfolding open_of action_of
@@ -151,7 +149,7 @@ module _ (m : Message) (e : is_message m ≡ true) where
       let h = open_length m in
       rw (open_first m) (pending_sound m.letter (spell_address m.address ++ (m.identifier ∷ spell_body m.body)) p.is-letter (plain_rest m p) (rw (open_first m) at h))
 
-  pub spelled_closed : (hear (pending_with (spell_open m)) (with_parity star)).message ≡ Heard m
+  pub spelled_closed : (hear (pending_with (spell_open m)) (with_parity star)).message ≡ Some m
   spelled_closed =
       ap (λ (h : Hearing). h.message) (hear_star (pending_with (spell_open m)) (omega (arith, ap length (open_first m))))
       ∙ ap parse (pending_holds (spell_open m) (open_length m)).open_is
@@ -184,17 +182,17 @@ added_sound p x o c q =
     }))
     (λ t. none_sound)
 
-opens_sound : (p : Pending) (r : Received) → sound_pending p ≡ true → sound_pending (perform p (opening r)).pending ≡ true
+opens_sound : (p : Pending) (r : Option ℕ) → sound_pending p ≡ true → sound_pending (perform p (opening r)).pending ≡ true
 unfolding opening perform
-opens_sound p (Character c) e = choice (λ (a : Action). sound_pending (perform p a).pending ≡ true) (is_letter c) (λ t. opened_sound c t) (λ t. e)
-opens_sound p Nothing e = e
+opens_sound p (Some c) e = choice (λ (a : Action). sound_pending (perform p a).pending ≡ true) (is_letter c) (λ t. opened_sound c t) (λ t. e)
+opens_sound p None e = e
 
-goes_sound : (p : Pending) (r : Received) → ((c : ℕ) → r ≡ Character c → c < 128) → (p.len ≡ 0 → ⊥) → sound_pending p ≡ true → sound_pending (perform p (continuing r)).pending ≡ true
+goes_sound : (p : Pending) (r : Option ℕ) → ((c : ℕ) → r ≡ Some c → c < 128) → (p.len ≡ 0 → ⊥) → sound_pending p ≡ true → sound_pending (perform p (continuing r)).pending ≡ true
 unfolding continuing perform
-goes_sound p (Character c) f o e =
+goes_sound p (Some c) f o e =
     choice (λ (a : Action). sound_pending (perform p a).pending ≡ true) (eqb c star) (λ t. none_sound)
     (λ t. added_sound p c o (plain_is c (record { small = f c refl; no_star = t })) (pending_parts p e))
-goes_sound p Nothing f o e = none_sound
+goes_sound p None f o e = none_sound
 
 pub hear_sound : (p : Pending) (w : ℕ) → sound_pending p ≡ true → sound_pending (hear p w).pending ≡ true
 unfolding hear action_of

@@ -10,13 +10,9 @@ use borrow.Author.Tests.{ltb-true}
 use lib.Dec.{ltb, lit<}
 use lib.ListN.{length, length-append}
 use Rattle.refusal.proofs.Logic.{choice, by-test}
-use Rattle.wire.specs.declared.Received.{Received}
-use Rattle.wire.specs.declared.Received.TheVariants.{Character, Nothing}
 use Rattle.wire.specs.Word.{with_parity, received, travelling}
 use Rattle.wire.proofs.Words.{travels, travelling_none, travelling_first}
 use Rattle.message.specs.declared.Message.{Message}
-use Rattle.message.specs.declared.Parsed.{Parsed}
-use Rattle.message.specs.declared.Parsed.TheVariants.{Unheard}
 use Rattle.message.specs.Message.{star, is_letter}
 use Rattle.message.proofs.Messages.{Plain, Unopening, no_letter_is}
 use Rattle.message.proofs.Places.{HeardAsNothing}
@@ -24,17 +20,18 @@ use Rattle.hearing.specs.declared.Pending.{Pending}
 use Rattle.hearing.specs.declared.Action.{Action}
 use Rattle.hearing.specs.Hearing.{most, none, added, opening, action_of, perform, hear, before, heard_from, open_after, heard}
 use Rattle.hearing.proofs.Heard.{OpenChars, none_holds, added_holds, hear_open, hear_add, before_unheard, heard_start, heard_both, leads_unheard, words_apart, heard_as}
+use Rattle.std.specs.Prelude.{None, Option, Some}
 
-opening_unheard : (r : Received) → (perform none (opening r)).message ≡ Unheard
+opening_unheard : (r : Option ℕ) → (perform none (opening r)).message ≡ None
 unfolding perform opening
-opening_unheard (Character c) = choice (λ (a : Action). (perform none a).message ≡ Unheard) (is_letter c) (λ _. refl) (λ _. refl)
-opening_unheard Nothing = refl
+opening_unheard (Some c) = choice (λ (a : Action). (perform none a).message ≡ None) (is_letter c) (λ _. refl) (λ _. refl)
+opening_unheard None = refl
 
-pub none_unheard : (w : ℕ) → (hear none w).message ≡ Unheard
+pub none_unheard : (w : ℕ) → (hear none w).message ≡ None
 unfolding hear action_of none
 none_unheard w = opening_unheard (received w)
 
-pub hear_dropped : (c : ℕ) → c < 128 → is_letter c ≡ false → hear none (with_parity c) ≡ record { pending = none; message = Unheard }
+pub hear_dropped : (c : ℕ) → c < 128 → is_letter c ≡ false → hear none (with_parity c) ≡ record { pending = none; message = None }
 unfolding hear perform action_of opening none
 hear_dropped c h e = rw (travels c h, e)
 
@@ -74,7 +71,7 @@ too_long c cs rest e u h =
 -- a letter, characters that are no message with it, and `*`: nothing is heard
 pub heard_as_nothing : (c : ℕ) (cs rest : List ℕ) → is_letter c ≡ true → Plain cs → HeardAsNothing c cs → heard_from none (travelling ((c ∷ cs) ++ (star ∷ [])) ++ rest) ≡ heard_from none rest
 heard_as_nothing c cs rest e p (inl u) =
-    (heard_as c cs rest e p u.0).hears ∙ ap (λ (x : Parsed). before x (heard_from none rest)) u.1 ∙ before_unheard (heard_from none rest)
+    (heard_as c cs rest e p u.0).hears ∙ ap (λ (x : Option Message). before x (heard_from none rest)) u.1 ∙ before_unheard (heard_from none rest)
 heard_as_nothing c cs rest e p (inr u) = too_long c cs rest e u.1 u.0
 
 -- words of which nothing is heard, between two recordings

@@ -1,17 +1,14 @@
 -- Hearing: what one word does to the open message, and the messages heard in a list of words.
 use Rattle.std.specs.Prelude.{Bool, true, false, cond, List, [], ◌∷◌, ℕ, ◌+◌, ltb, eqb, take, set, replicate}
-use Rattle.wire.specs.declared.Received.{Received}
-use Rattle.wire.specs.declared.Received.TheVariants.{Character, Nothing}
 use Rattle.wire.specs.Word.{received}
 use Rattle.message.specs.declared.Message.{Message}
-use Rattle.message.specs.declared.Parsed.{Parsed}
-use Rattle.message.specs.declared.Parsed.TheVariants.{Heard, Unheard}
 use Rattle.message.specs.Message.{star, is_letter}
 use Rattle.message.specs.Prefix.{parse}
 use Rattle.hearing.specs.declared.Pending.{Pending}
 use Rattle.hearing.specs.declared.Action.{Action}
 use Rattle.hearing.specs.declared.Action.TheVariants.{Ignore, Open, Add, Close, Drop}
 use Rattle.hearing.specs.declared.Hearing.{Hearing}
+use Rattle.std.specs.Prelude.{None, Option, Some}
 
 -- document 01: "A message holds at most 10 characters before `*`"
 abbrev pub most : ℕ
@@ -30,14 +27,14 @@ unfoldable pub open_of : Pending → List ℕ
 open_of p = take p.len p.chars
 
 -- document 01: "With no message open, a word other than `L` or `R` in good parity is dropped. `L` or `R` opens a message."
-unfoldable pub opening : Received → Action
-opening (Character c) = cond (is_letter c) (Open c) Ignore
-opening Nothing = Ignore
+unfoldable pub opening : Option ℕ → Action
+opening (Some c) = cond (is_letter c) (Open c) Ignore
+opening None = Ignore
 
 -- while one is open: "a byte in bad parity, or 256, drops the message"; "`*` closes it"; "any other byte is added, `L` and `R` too"
-unfoldable pub continuing : Received → Action
-continuing (Character c) = cond (eqb c star) Close (Add c)
-continuing Nothing = Drop
+unfoldable pub continuing : Option ℕ → Action
+continuing (Some c) = cond (eqb c star) Close (Add c)
+continuing None = Drop
 
 -- what a word does
 unfoldable pub action_of : Pending → ℕ → Action
@@ -53,20 +50,20 @@ closes Drop = false
 
 -- the open message afterwards, and the message heard, if any
 unfoldable pub perform : Pending → Action → Hearing
-perform p Ignore = record { pending = p; message = Unheard }
-perform p (Open c) = record { pending = added none c; message = Unheard }
-perform p (Add c) = record { pending = added p c; message = Unheard }
+perform p Ignore = record { pending = p; message = None }
+perform p (Open c) = record { pending = added none c; message = None }
+perform p (Add c) = record { pending = added p c; message = None }
 perform p Close = record { pending = none; message = parse (open_of p) }
-perform p Drop = record { pending = none; message = Unheard }
+perform p Drop = record { pending = none; message = None }
 
 unfoldable pub hear : Pending → ℕ → Hearing
 hear p w = perform p (action_of p w)
 
 -- ---- lists of words
 
-unfoldable pub before : Parsed → List Message → List Message
-before (Heard m) ms = m ∷ ms
-before Unheard ms = ms
+unfoldable pub before : Option Message → List Message → List Message
+before (Some m) ms = m ∷ ms
+before None ms = ms
 
 -- the messages heard when the words are taken in order, with p open before the first
 unfoldable pub heard_from : Pending → List ℕ → List Message

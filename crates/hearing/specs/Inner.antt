@@ -1,20 +1,16 @@
 -- Definitions for this crate's loops, and for `take` and `to_close`, by which runs, the normal form and the listing take words. No call of
 -- document 01 and no claim cites any of it.
-use Rattle.std.specs.Prelude.{Bool, false, cond, List, [], ◌∷◌, ℕ, ◌+◌, eqb, drop}
-use Rattle.wire.specs.declared.Received.{Received}
-use Rattle.wire.specs.declared.Received.TheVariants.{Character, Nothing}
+use Rattle.std.specs.Prelude.{Bool, false, cond, List, [], ◌∷◌, ℕ, ◌+◌, ltb, eqb, drop, length}
 use Rattle.wire.specs.Word.{received, travelling}
-use Rattle.message.specs.declared.Parsed.{Parsed}
-use Rattle.message.specs.declared.Parsed.TheVariants.{Heard, Unheard}
 use Rattle.message.specs.Message.{is_letter}
 use Rattle.message.specs.Prefix.{parse}
 use Rattle.message.specs.Spell.{spell}
 use Rattle.hearing.specs.declared.Pending.{Pending}
 use Rattle.hearing.specs.declared.Action.{Action}
-use Rattle.hearing.specs.declared.Next.{Next}
-use Rattle.hearing.specs.declared.Halt.{Halt}
 use Rattle.hearing.specs.declared.passes.Closing.{Closing}
 use Rattle.hearing.specs.Hearing.{none, open_of, action_of, perform, hear, closes}
+use Rattle.std.specs.Prelude.{None, Option, Some}
+use Rattle.message.specs.declared.Message.{Message}
 
 -- ---- words taken in place
 
@@ -22,22 +18,10 @@ use Rattle.hearing.specs.Hearing.{none, open_of, action_of, perform, hear, close
 unfoldable pub left_by : Pending → Action → Pending
 left_by p a = cond (closes a) p (perform p a).pending
 
--- what the taking of a word answers: the count of open characters, and whether the word closes the message
-abbrev pub next_of : Pending → ℕ → Next
-next_of p w = record { len = (left_by p (action_of p w)).len; closes = closes (action_of p w) }
-
--- the characters that it leaves
-abbrev pub chars_of : Pending → ℕ → List ℕ
-chars_of p w = (left_by p (action_of p w)).chars
-
 -- where the words have come: the open message, and the place of the next word
 pub record Reached : Type 0 where
   pub pending : Pending
   pub at : ℕ
-
--- as the code answers it, the characters being in their place
-abbrev pub halt_of : Reached → Halt
-halt_of r = record { len = r.pending.len; at = r.at }
 
 -- up to a word that closes the open message, or behind the last
 unfoldable pub to_close : Pending → List ℕ → ℕ → Reached
@@ -47,9 +31,9 @@ to_close p (w ∷ ws) at = cond (closes (action_of p w)) (record { pending = p; 
 -- ---- the loops
 
 -- a letter in good parity
-unfoldable pub is_opening : Received → Bool
-is_opening (Character c) = is_letter c
-is_opening Nothing = false
+unfoldable pub is_opening : Option ℕ → Bool
+is_opening (Some c) = is_letter c
+is_opening None = false
 
 -- the place of the next letter, or behind the last word
 unfoldable pub to_letter : List ℕ → ℕ → ℕ
@@ -64,10 +48,12 @@ to_end p (w ∷ ws) at =
     (cond (eqb (hear p w).pending.len 0) (record { pending = (hear p w).pending; at = at + 1 }) (to_end (hear p w).pending ws (at + 1)))
 
 -- what the words from a place on close first, with no message open before them, and where
-unfoldable pub next_closed : List ℕ → ℕ → Closing
-next_closed ws i = record { message = parse (open_of (to_close none (drop i ws) i).pending); at = (to_close none (drop i ws) i).at }
+unfoldable pub next_closed : List ℕ → ℕ → Option Closing
+next_closed ws i =
+    cond (ltb (to_close none (drop i ws) i).at (length ws))
+    (Some (record { message = parse (open_of (to_close none (drop i ws) i).pending); at = (to_close none (drop i ws) i).at })) None
 
 -- the words that a closed message has in the normal form
-unfoldable pub worth : Parsed → List ℕ
-worth (Heard m) = travelling (spell m)
-worth Unheard = []
+unfoldable pub worth : Option Message → List ℕ
+worth (Some m) = travelling (spell m)
+worth None = []

@@ -1,27 +1,27 @@
 // Hearing: what a word does to the open message, and the normal form of a recording.
 #![tactic(auto)]
 
-ghost use Rattle.std.specs.Prelude.{◌≡◌, ◌≤◌, take, drop, cond, eqb};
+ghost use Rattle.std.specs.Prelude.{◌≡◌, ◌≤◌, length, drop};
 ghost use Rattle.refusal.specs.Call.{call_of};
 ghost use Rattle.wire.specs.Word.{received};
-ghost use Rattle.hearing.specs.Hearing.{none, added, open_of, opening, continuing, action_of, hear};
-ghost use Rattle.hearing.specs.Inner.{next_of, chars_of, halt_of, to_close, is_opening, to_letter, to_end};
+ghost use Rattle.hearing.specs.Hearing.{none, added, open_of, opening, continuing, closes, action_of, hear};
+ghost use Rattle.hearing.specs.Inner.{left_by, to_close, is_opening, to_letter, to_end};
 ghost use Rattle.hearing.specs.Sound.{plain, zeros, sound_pending};
 ghost use Rattle.hearing.specs.Normal.{normal_call};
 ghost use Rattle.message.specs.Prefix.{parse};
 ghost use Rattle.message.specs.Position.{position};
 
-use message::Parsed;
-use refusal::{Refusal, Written};
-use wire::Received;
+use message::Message;
+use refusal::Refusal;
 
 mod passes;
 
 // An open message holds at most this many characters before its `*`.
 pub const MOST: usize = 10;
 
-// The open message: `len` characters and 0 behind them; none is open where `len` is 0.
-#[derive(Clone, Copy)]
+// The open message: `len` characters and 0 behind them; none is open where `len` is 0. A host may lend a row with any length and any
+// characters, and number 1 judges it (`is_sound`), so the length is a field and not a slice's.
+#[derive(Clone, Copy, Debug, PartialEq, Eq)]
 pub struct Pending {
     pub chars: [u8; MOST],
     pub len: usize,
@@ -41,61 +41,141 @@ pub enum Action {
 #[derive(Clone, Copy)]
 pub struct Hearing {
     pub pending: Pending,
-    pub message: Parsed,
+    pub message: Option<Message>,
 }
 
 impl Pending {
     // No message open.
+    #[tactic(auto, unfolding(crate::specs::Hearing::none))]
     pub fn new() -> Pending
         ensures { result ≡ none }
     {
-        let chars = [0u8; MOST];
-        Pending { chars, len: 0 }
+        Pending {
+            chars: [0; MOST],
+            len: 0,
+        }
     }
 
     // One character more; an eleventh drops the message.
-    pub fn add(self, c: u8) -> Pending
+    pub fn add(mut self, c: u8) -> Pending
         ensures { result ≡ added self c }
     {
-        let len = self.len;
-        if MOST <= len {
-            return Pending::new();
+        self.push(c);
+        self
+    }
+
+    // The same in its own place.
+    #[tactic(auto, unfolding(crate::specs::Hearing::added))]
+    fn push(&mut self, c: u8)
+        ensures { self.new ≡ added self.old c }
+    {
+        if self.len < MOST {
+            self.chars[self.len] = c;
+            self.len += 1;
+        } else {
+            *self = Pending::new();
         }
-        let mut chars = self.chars;
-        chars[len] = c;
-        let next = len + 1;
-        Pending { chars, len: next }
+    }
+
+    // The open characters.
+    #[tactic(auto, using(std::proofs::lemmas::List::take_min), unfolding(crate::specs::Hearing::open_of))]
+    fn characters(&self) -> &[u8]
+        ensures { result.now ≡ open_of self.now }
+    {
+        &self.chars[..self.len.min(MOST)]
     }
 
     // The message that the open characters are.
-    pub fn close(self) -> Parsed
-        ensures { result ≡ parse (open_of self) }
+    pub fn close(&self) -> Option<Message>
+        ensures { result ≡ parse (open_of self.now) }
     {
-        let chars = self.chars;
-        closed(&chars, self.len)
+        message::parse(self.characters())
     }
 
     // Where the open characters fail, when they are closed and not heard.
-    pub fn position(self) -> u8
-        ensures { result ≡ position (open_of self) }
+    #[tactic(auto, using(crate::proofs::Words::position_short))]
+    pub fn position(&self) -> u8
+        ensures { result ≡ position (open_of self.now) }
     {
-        let chars = self.chars;
-        position_in(&chars, self.len) as u8
+        message::recogniser::position(self.characters()) as u8
     }
 
     // What a word does.
-    pub fn action(self, word: u16) -> Action
-        ensures { result ≡ action_of self word }
+    #[tactic(auto, unfolding(crate::specs::Hearing::action_of))]
+    pub fn action(&self, word: u16) -> Action
+        ensures { result ≡ action_of self.now word }
     {
-        action_at(self.len, word)
+        if self.len == 0 {
+            opening(wire::receive(word))
+        } else {
+            continuing(wire::receive(word))
+        }
+    }
+
+    // What a word does to an open message in its own place, and whether it closes it: then it is left for the caller to read.
+    #[tactic(auto, using(crate::proofs::Words::done), unfolding(crate::specs::Hearing::perform, crate::specs::Inner::left_by))]
+    pub fn take(&mut self, word: u16) -> bool
+        ensures { (result ≡ closes (action_of self.old word)) × (self.new ≡ left_by self.old (action_of self.old word)) }
+    {
+        match self.action(word) {
+            Action::Ignore => {}
+            Action::Open(c) => *self = Pending::new().add(c),
+            Action::Add(c) => self.push(c),
+            Action::Close => return true,
+            Action::Drop => *self = Pending::new(),
+        }
+        false
+    }
+
+    // Takes the words of an open message from a place on: up to its `*`, which is left, or behind a word that drops it. Gives the place
+    // of the next word. `take` in place of the `match` is shorter, and a normal form of messages alone takes 13 % more instructions.
+    fn to_end(&mut self, words: &[u16], from: usize) -> usize
+        requires { (1 ≤ self.old.len) × (from ≤ length words.now) }
+        ensures { (result ≡ (to_end self.old (drop from words.now) from).at) × (self.new ≡ (to_end self.old (drop from words.now) from).pending) }
+    {
+        for (i, word) in words[from..].iter().enumerate() {
+            match wire::receive(*word) {
+                Some(b'*') => return from + i,
+                Some(c) if self.len < MOST => self.push(c),
+                _ => {
+                    *self = Pending::new();
+                    return from + i + 1;
+                }
+            }
+        }
+        words.len()
+    }
+
+    // Takes the words from a place on, up to a `*` that closes the open message: that one is left. No message is heard on the way. Gives
+    // the place of the next word.
+    pub fn to_close(&mut self, words: &[u16], from: usize) -> usize
+        ensures { (result ≡ (to_close self.old (drop from words.now) from).at) × (self.new ≡ (to_close self.old (drop from words.now) from).pending) }
+    {
+        let mut at = from;
+        // The place goes on by as many words as a loop below took, so no `for` counts it.
+        while at < words.len() {
+            if self.len == 0 {
+                at = to_letter(words, at);
+                let Some(letter) = words.get(at) else {
+                    break;
+                };
+                *self = Pending::new().add((letter % 128) as u8);
+                at += 1;
+            } else {
+                at = self.to_end(words, at);
+                if self.len != 0 {
+                    break;
+                }
+            }
+        }
+        at
     }
 
     // 0 to 10 seven-bit characters without `*`, the first `L` or `R`, and 0 behind.
     pub fn is_sound(self) -> bool
         ensures { result ≡ sound_pending self }
     {
-        let chars = self.chars;
-        let len = self.len;
+        let Pending { chars, len } = self;
         if MOST < len {
             return false;
         }
@@ -103,272 +183,84 @@ impl Pending {
     }
 }
 
-fn opening(received: Received) -> Action
+#[tactic(auto, unfolding(crate::specs::Hearing::opening))]
+fn opening(received: Option<u8>) -> Action
     ensures { result ≡ opening received }
 {
-    let Received::Character(c) = received else {
-        return Action::Ignore;
-    };
-    if message::is_letter(c) {
-        Action::Open(c)
-    } else {
-        Action::Ignore
+    match received {
+        Some(c) if message::is_letter(c) => Action::Open(c),
+        _ => Action::Ignore,
     }
 }
 
-fn continuing(received: Received) -> Action
+#[tactic(auto, unfolding(crate::specs::Hearing::continuing))]
+fn continuing(received: Option<u8>) -> Action
     ensures { result ≡ continuing received }
 {
-    let Received::Character(c) = received else {
-        return Action::Drop;
-    };
-    if c == b'*' {
-        Action::Close
-    } else {
-        Action::Add(c)
+    match received {
+        Some(b'*') => Action::Close,
+        Some(c) => Action::Add(c),
+        None => Action::Drop,
     }
 }
 
 // What a word does, done.
-pub fn hear(pending: Pending, word: u16) -> Hearing
+#[tactic(auto, using(crate::proofs::Words::hears_closed, crate::proofs::Words::hears_other))]
+pub fn hear(mut pending: Pending, word: u16) -> Hearing
     ensures { result ≡ hear pending word }
 {
-    let action = pending.action(word);
-    let unheard = Parsed::Unheard;
-    match action {
-        Action::Ignore => Hearing {
-            pending,
-            message: unheard,
-        },
-        Action::Open(c) => {
-            let opened = Pending::new().add(c);
-            Hearing {
-                pending: opened,
-                message: unheard,
-            }
-        }
-        Action::Add(c) => {
-            let longer = pending.add(c);
-            Hearing {
-                pending: longer,
-                message: unheard,
-            }
-        }
-        Action::Close => {
-            let message = pending.close();
-            let pending = Pending::new();
-            Hearing { pending, message }
-        }
-        Action::Drop => {
-            let pending = Pending::new();
-            Hearing {
-                pending,
-                message: unheard,
-            }
-        }
+    if pending.take(word) {
+        return Hearing {
+            pending: Pending::new(),
+            message: pending.close(),
+        };
     }
-}
-
-// Where a hearing stands: the count of open characters, and the place of the next word.
-#[derive(Clone, Copy)]
-pub struct Halt {
-    pub len: usize,
-    pub at: usize,
-}
-
-// What a word does with so many characters open.
-fn action_at(len: usize, word: u16) -> Action
-    ensures { result ≡ cond (eqb len 0) (opening (received word)) (continuing (received word)) }
-{
-    if len == 0 {
-        opening(wire::receive(word))
-    } else {
-        continuing(wire::receive(word))
-    }
-}
-
-// The count of open characters after a word, or that the word closes the message.
-#[derive(Clone, Copy)]
-pub struct Next {
-    pub len: usize,
-    pub closes: bool,
-}
-
-// What a word does to an open message in its own place. A `*` that closes it leaves it for the caller to read.
-pub fn take(chars: &mut [u8; MOST], len: usize, word: u16) -> Next
-    ensures { (result ≡ next_of (record { chars = chars.old; len = len }) word) × (chars.new ≡ chars_of (record { chars = chars.old; len = len }) word) }
-{
-    let action = action_at(len, word);
-    match action {
-        Action::Ignore => Next { len, closes: false },
-        Action::Open(c) => {
-            *chars = [0u8; MOST];
-            chars[0] = c;
-            Next {
-                len: 1,
-                closes: false,
-            }
-        }
-        Action::Add(c) => {
-            if len < MOST {
-                chars[len] = c;
-                return Next {
-                    len: len + 1,
-                    closes: false,
-                };
-            }
-            *chars = [0u8; MOST];
-            Next {
-                len: 0,
-                closes: false,
-            }
-        }
-        Action::Close => Next { len, closes: true },
-        Action::Drop => {
-            *chars = [0u8; MOST];
-            Next {
-                len: 0,
-                closes: false,
-            }
-        }
+    Hearing {
+        pending,
+        message: None,
     }
 }
 
 // Whether the word is a letter in good parity.
+#[tactic(auto, unfolding(crate::specs::Inner::is_opening))]
 fn is_opening(word: u16) -> bool
     ensures { result ≡ is_opening (received word) }
 {
-    let Received::Character(c) = wire::receive(word) else {
-        return false;
-    };
-    message::is_letter(c)
+    wire::receive(word).is_some_and(message::is_letter)
 }
 
-// The place of the next letter in good parity.
+// The place of the next letter in good parity, or behind the last word.
 fn to_letter(words: &[u16], from: usize) -> usize
+    requires { from ≤ length words.now }
     ensures { result ≡ to_letter (drop from words.now) from }
 {
-    let mut at = from;
-    while at < words.len() {
-        if is_opening(words[at]) {
-            break;
-        }
-        at += 1;
+    match words[from..].iter().position(|word| is_opening(*word)) {
+        Some(i) => from + i,
+        None => words.len(),
     }
-    at
-}
-
-// Takes the words of an open message: up to its `*`, which is left, or behind a word that drops it.
-fn to_end(chars: &mut [u8; MOST], len: usize, words: &[u16], from: usize) -> Halt
-    requires { 1 ≤ len }
-    ensures { (result ≡ halt_of (to_end (record { chars = chars.old; len = len }) (drop from words.now) from)) × (chars.new ≡ (to_end (record { chars = chars.old; len = len }) (drop from words.now) from).pending.chars) }
-{
-    let mut len = len;
-    let mut at = from;
-    while at < words.len() {
-        let next = at + 1;
-        let Received::Character(c) = wire::receive(words[at]) else {
-            *chars = [0u8; MOST];
-            return Halt { len: 0, at: next };
-        };
-        if c == b'*' {
-            break;
-        }
-        if MOST <= len {
-            *chars = [0u8; MOST];
-            return Halt { len: 0, at: next };
-        }
-        chars[len] = c;
-        len += 1;
-        at = next;
-    }
-    Halt { len, at }
-}
-
-// Takes the words from a place on, up to a `*` that closes the open message: that one is left. No message is heard on the way.
-pub fn to_close(chars: &mut [u8; MOST], len: usize, words: &[u16], from: usize) -> Halt
-    ensures { (result ≡ halt_of (to_close (record { chars = chars.old; len = len }) (drop from words.now) from)) × (chars.new ≡ (to_close (record { chars = chars.old; len = len }) (drop from words.now) from).pending.chars) }
-{
-    let mut len = len;
-    let mut at = from;
-    while at < words.len() {
-        if len == 0 {
-            at = to_letter(words, at);
-            if words.len() <= at {
-                break;
-            }
-            *chars = [0u8; MOST];
-            chars[0] = (words[at] % 128) as u8;
-            len = 1;
-            at += 1;
-            continue;
-        }
-        let end = to_end(chars, len, words, at);
-        len = end.len;
-        at = end.at;
-        if len != 0 {
-            break;
-        }
-    }
-    Halt { len, at }
-}
-
-// The message that the first so many characters are.
-pub fn closed(chars: &[u8], len: usize) -> Parsed
-    ensures { result ≡ parse (take len chars.now) }
-{
-    if chars.len() <= len {
-        return message::parse(chars);
-    }
-    message::parse(&chars[..len])
-}
-
-// Where the first so many characters fail, when they are closed and not heard.
-fn position_in(chars: &[u8], len: usize) -> usize
-    ensures { result ≡ position (take len chars.now) }
-{
-    if len < chars.len() {
-        return message::recogniser::position(&chars[..len]);
-    }
-    message::recogniser::position(chars)
 }
 
 // The normal form of a recording.
-pub fn normal_form(words: &[u16], out: &mut [u16]) -> Written
+pub fn normal_form(words: &[u16], out: &mut [u16]) -> Result<usize, Refusal>
     ensures { call_of result out.new ≡ normal_call words.now out.old }
 {
     if !wire::valid_words(words) {
-        return Written::Refused(Refusal::WordAbove256);
+        return Err(Refusal::WordAbove256);
     }
     if !passes::fits(words, out.len()) {
-        return Written::Refused(Refusal::RoomTooShort);
+        return Err(Refusal::RoomTooShort);
     }
-    Written::Wrote(passes::fill(words, out))
+    Ok(passes::fill(words, out))
 }
 
 fn plain(chars: &[u8]) -> bool
     ensures { result ≡ plain chars.now }
 {
-    let mut i = 0;
-    while i < chars.len() {
-        let c = chars[i];
-        if !((c < 128) & (c != b'*')) {
-            return false;
-        }
-        i += 1;
-    }
-    true
+    chars.iter().all(|c| (*c < 128) & (*c != b'*'))
 }
 
 fn zeros(chars: &[u8]) -> bool
     ensures { result ≡ zeros chars.now }
 {
-    let mut i = 0;
-    while i < chars.len() {
-        if chars[i] != 0 {
-            return false;
-        }
-        i += 1;
-    }
-    true
+    chars.iter().all(|c| *c == 0)
 }

@@ -6,56 +6,53 @@ ghost use Rattle.message.specs.Spell.{kind_of, spell};
 ghost use Rattle.hearing.specs.Normal.{normal};
 ghost use Rattle.hearing.specs.Inner.{next_closed, worth};
 
-use crate::MOST;
-use message::{Kind, Message, Parsed};
+use crate::Pending;
+use message::{Kind, Message};
+use wire::Line;
 
 // The words that a heard message has in a normal form.
-fn count_of(message: Parsed) -> usize
+#[tactic(auto, using(wire::proofs::Words::travelling_length), unfolding(crate::specs::Inner::worth))]
+fn count_of(message: Option<Message>) -> usize
     ensures { result ≡ length (worth message) }
 {
-    let Parsed::Heard(m) = message else {
-        return 0;
-    };
-    message::spelled_len(m)
+    message.map_or(0, message::spelled_len)
 }
 
-// A message that is closed, and the place of its `*`.
+// What the words of a message are read as when its `*` closes it, and the place of that `*`.
 #[derive(Clone, Copy)]
 struct Closing {
-    message: Parsed,
+    message: Option<Message>,
     at: usize,
 }
 
-// The message that the words from a place on close first. Where they close none, the place is behind them.
-fn next_closed(words: &[u16], from: usize) -> Closing
+// What the words from a place on close first.
+fn next_closed(words: &[u16], from: usize) -> Option<Closing>
     ensures { result ≡ next_closed words.now from }
 {
-    let mut chars = [0u8; MOST];
-    let halt = crate::to_close(&mut chars, 0, words, from);
-    let message = crate::closed(&chars, halt.len);
-    let at = halt.at;
-    Closing { message, at }
+    let mut pending = Pending::new();
+    let at = pending.to_close(words, from);
+    if words.len() <= at {
+        return None;
+    }
+    Some(Closing {
+        message: pending.close(),
+        at,
+    })
 }
 
 // The counting pass: whether the normal form fits the room.
 fn measure(words: &[u16], room: usize) -> bool
     ensures { result ≡ leb (length (normal words.now)) room }
 {
-    let mut n: usize = 0;
+    let mut n = 0;
     let mut from = 0;
-    while from < words.len() {
-        let closing = next_closed(words, from);
-        let message = closing.message;
-        let star = closing.at;
-        if words.len() <= star {
-            break;
-        }
+    while let Some(Closing { message, at }) = next_closed(words, from) {
         let more = count_of(message);
         if room - n < more {
             return false;
         }
         n += more;
-        from = star + 1;
+        from = at + 1;
     }
     true
 }
@@ -64,10 +61,7 @@ fn measure(words: &[u16], room: usize) -> bool
 pub(crate) fn fits(words: &[u16], room: usize) -> bool
     ensures { result ≡ leb (length (normal words.now)) room }
 {
-    if words.len() <= room {
-        return true;
-    }
-    measure(words, room)
+    (words.len() <= room) || measure(words, room)
 }
 
 // The words of a message with a sign, an array of five or six, into the buffer from a place on.
@@ -76,34 +70,29 @@ fn put_sign(m: Message, sign: u8, out: &mut [u16], at: usize) -> usize
     requires { (kind_of m.body ≡ Kind.Sign sign) × (at + length (travelling (spell m)) ≤ length out.old) }
     ensures { (result ≡ at + length (travelling (spell m))) × (out.new ≡ placed (travelling (spell m)) at out.old) }
 {
-    let letter = m.letter;
-    let address = m.address;
-    let identifier = m.identifier;
-    if address <= 9 {
-        let bytes = message::with_one_digit(letter, 48 + address, identifier, sign);
+    if m.address <= 9 {
+        let bytes = message::with_one_digit(m.letter, 48 + m.address, m.identifier, sign);
         return copy(&bytes, out, at);
     }
-    let tens = 48 + address / 10;
-    let ones = 48 + address % 10;
-    let bytes = message::with_two_digits(letter, tens, ones, identifier, sign);
+    let tens = 48 + m.address / 10;
+    let ones = 48 + m.address % 10;
+    let bytes = message::with_two_digits(m.letter, tens, ones, m.identifier, sign);
     copy(&bytes, out, at)
 }
 
-// The words of a heard message into the buffer from a place on, and the place behind them.
-fn put(message: Parsed, out: &mut [u16], at: usize) -> usize
+// The words of a heard message into the buffer from a place on, and the place behind them. A struct of the buffer and the place would be
+// lent to each of these three and taken apart again: no plainer.
+fn put(message: Option<Message>, out: &mut [u16], at: usize) -> usize
     requires { at + length (worth message) ≤ length out.old }
     ensures { (result ≡ at + length (worth message)) × (out.new ≡ placed (worth message) at out.old) }
 {
-    let Parsed::Heard(m) = message else {
+    let Some(m) = message else {
         return at;
     };
-    let body = m.body;
-    match message::kind_of(body) {
+    match message::kind_of(m.body) {
         Kind::Sign(c) => put_sign(m, c, out, at),
         Kind::Data(_) => {
-            let line = message::spell(m);
-            let bytes = line.bytes;
-            let len = line.len;
+            let Line { bytes, len } = message::spell(m);
             copy(&bytes[..len], out, at)
         }
     }
@@ -114,10 +103,8 @@ fn copy(bytes: &[u8], out: &mut [u16], at: usize) -> usize
     requires { at + length bytes.now ≤ length out.old }
     ensures { (result ≡ at + length bytes.now) × (out.new ≡ placed bytes.now at out.old) }
 {
-    let mut k = 0;
-    while k < bytes.len() {
-        out[at + k] = bytes[k] as u16;
-        k += 1;
+    for (k, byte) in bytes.iter().enumerate() {
+        out[at + k] = u16::from(*byte);
     }
     at + bytes.len()
 }
@@ -127,17 +114,11 @@ pub(crate) fn fill(words: &[u16], out: &mut [u16]) -> usize
     requires { length (normal words.now) ≤ length out.old }
     ensures { (result ≡ length (normal words.now)) × (out.new ≡ laid (normal words.now) out.old) }
 {
-    let mut at = 0;
-    let mut i = 0;
-    while i < words.len() {
-        let closing = next_closed(words, i);
-        let message = closing.message;
-        let star = closing.at;
-        if words.len() <= star {
-            break;
-        }
-        at = put(message, out, at);
-        i = star + 1;
+    let mut written = 0;
+    let mut from = 0;
+    while let Some(Closing { message, at }) = next_closed(words, from) {
+        written = put(message, out, written);
+        from = at + 1;
     }
-    at
+    written
 }

@@ -2,12 +2,11 @@
 // All that a listing says is in the crate `listing`; here it is read and written.
 #![tactic(auto)]
 
-ghost use Rattle.std.specs.Prelude.{◌≡◌, ◌+◌, ◌≤◌, length};
+ghost use Rattle.std.specs.Prelude.{◌+◌, ◌≤◌, length, IfOk, IfSome};
 ghost use Rattle.list.specs.State.{Within};
 
 use listing::{Ending, Listed, Progress, Stop};
-use refusal::Written;
-use std::io::Read;
+use std::io::{self, Read};
 
 // 4,096 words.
 const BYTES: usize = 8192;
@@ -22,60 +21,20 @@ struct State {
     from: usize,
     len: usize,
     used: usize,
-    ended: bool,
-    going: bool,
 }
 
-// How many bytes were read, and whether a read failed.
-#[derive(Clone, Copy)]
-struct Reading {
-    count: usize,
-    failed: bool,
-}
-
-// One read, into the buffer from a place on. Where it fails, that is said on standard error.
-fn read_some<R: Read, E: Eprint>(
-    input: &mut R,
-    errors: &E,
-    bytes: &mut [u8],
-    from: usize,
-) -> Reading
-    requires { from ≤ length bytes.old }
-    ensures { (from ≤ result.count) × (result.count ≤ length bytes.new) }
-{
-    match input.read(&mut bytes[from..]) {
-        Ok(more) => Reading {
-            count: from + more,
-            failed: false,
-        },
-        Err(e) => {
-            let _ = eprintln!(errors; "standard input: {e}");
-            Reading {
-                count: from,
-                failed: true,
-            }
-        }
-    }
-}
-
-// Reads until the buffer is full or the input ends: a short read is not its end.
-fn fill<R: Read, E: Eprint>(input: &mut R, errors: &E, bytes: &mut [u8]) -> Reading
-    ensures { result.count ≤ length bytes.new }
+// Reads until the buffer is full or the input ends: a short read is not its end. Each read says how far it came, so no iterator counts it.
+fn fill<R: Read>(input: &mut R, bytes: &mut [u8]) -> io::Result<usize>
+    ensures { IfOk result (λ count. count ≤ length bytes.new) }
 {
     let mut count = 0;
     while count < bytes.len() {
-        let some = read_some(input, errors, bytes, count);
-        let failed = some.failed;
-        let end = some.count;
-        if failed | (end == count) {
-            return Reading { count, failed };
+        match input.read(&mut bytes[count..])? {
+            0 => break,
+            more => count += more,
         }
-        count = end;
     }
-    Reading {
-        count,
-        failed: false,
-    }
+    Ok(count)
 }
 
 // Writes to standard output, or says why it can't.
@@ -93,11 +52,9 @@ fn flush<P: Print + Eprint>(rt: &P, bytes: &[u8]) -> bool {
 fn write_last<P: Print + Eprint>(rt: &P, ending: Ending, used: usize, out: &mut [u8])
     requires { used ≤ length out.old }
 {
-    let Written::Wrote(n) = listing::last(ending, &mut out[used..]) else {
-        return;
-    };
-    let end = used + n;
-    flush(rt, &out[..end]);
+    if let Ok(n) = listing::last(ending, &mut out[used..]) {
+        flush(rt, &out[..used + n]);
+    }
 }
 
 // The last line, in one piece with what waits where there is room for both.
@@ -106,39 +63,33 @@ fn finish<P: Print + Eprint>(rt: &P, ending: Ending, used: usize, out: &mut [u8]
 {
     if listing::LONGEST_LINE <= out.len() - used {
         write_last(rt, ending, used, out);
-        return;
-    }
-    if flush(rt, &out[..used]) {
+    } else if flush(rt, &out[..used]) {
         write_last(rt, ending, 0, out);
     }
 }
 
-// Reads the next buffer. Where that fails, what waits is written, and no last line follows.
+// Reads the next buffer. Where that fails, that is said on standard error, what waits is written, and no last line follows.
 fn refill<R: Read, P: Print + Eprint>(
     input: &mut R,
     rt: &P,
     state: State,
     bytes: &mut [u8],
     out: &[u8],
-) -> State
+) -> Option<State>
     requires { state.used ≤ length out.now }
-    ensures { Within result bytes.new out.now }
+    ensures { IfSome result (λ next. Within next bytes.new out.now) }
 {
-    let progress = state.progress;
-    let used = state.used;
-    let reading = fill(input, rt, bytes);
-    let failed = reading.failed;
-    let len = reading.count;
-    if failed {
-        flush(rt, &out[..used]);
-    }
-    State {
-        progress,
-        from: 0,
-        len,
-        used,
-        ended: len < bytes.len(),
-        going: !failed,
+    match fill(input, bytes) {
+        Ok(len) => Some(State {
+            from: 0,
+            len,
+            ..state
+        }),
+        Err(e) => {
+            let _ = eprintln!(rt; "standard input: {e}");
+            flush(rt, &out[..state.used]);
+            None
+        }
     }
 }
 
@@ -150,72 +101,55 @@ fn list_behind(progress: Progress, bytes: &[u8], used: usize, out: &mut [u8]) ->
     listing::list(progress, bytes, &mut out[used..])
 }
 
-// Everything is written.
-fn over(progress: Progress) -> State
-    ensures { (result.from ≡ 0) × (result.len ≡ 0) × (result.used ≡ 0) }
-{
-    State {
-        progress,
-        from: 0,
-        len: 0,
-        used: 0,
-        ended: true,
-        going: false,
-    }
-}
-
-// Lists the bytes that are left of the buffer. Where the output is full, it is written, and the rest is left for the next turn.
-fn list_rest<P: Print + Eprint>(rt: &P, state: State, bytes: &[u8], out: &mut [u8]) -> State
+// Lists the bytes that are left of the buffer. Where the output is full, it is written, and the rest is left for the next turn. None: all
+// is written, or can't be.
+fn list_rest<P: Print + Eprint>(rt: &P, state: State, bytes: &[u8], out: &mut [u8]) -> Option<State>
     requires { Within state bytes.now out.old }
-    ensures { Within result bytes.now out.new }
+    ensures { IfSome result (λ next. Within next bytes.now out.new) }
 {
-    let before = state.progress;
-    let from = state.from;
-    let len = state.len;
-    let listed = list_behind(before, &bytes[from..len], state.used, out);
+    let State {
+        progress,
+        from,
+        len,
+        used,
+    } = state;
+    let listed = list_behind(progress, &bytes[from..len], used, out);
     let progress = listed.progress;
-    let next = from + (listed.taken + listed.taken);
-    let end = state.used + listed.written;
-    let stop = listed.stop;
-    match stop {
-        Stop::Done => State {
+    let from = from + 2 * listed.taken;
+    let used = used + listed.written;
+    match listed.stop {
+        Stop::Done => Some(State {
             progress,
-            from: next,
+            from,
             len,
-            used: end,
-            ended: state.ended,
-            going: true,
-        },
-        Stop::Full => State {
+            used,
+        }),
+        Stop::Full => flush(rt, &out[..used]).then_some(State {
             progress,
-            from: next,
+            from,
             len,
             used: 0,
-            ended: state.ended,
-            going: flush(rt, &out[..end]),
-        },
+        }),
         Stop::Bad => {
-            finish(rt, Ending::Bad(progress.at), end, out);
-            over(progress)
+            finish(rt, Ending::Bad(progress.at), used, out);
+            None
         }
     }
 }
 
 // The end of the input: less than a word is left.
-fn end<P: Print + Eprint>(rt: &P, state: State, out: &mut [u8]) -> State
+fn end<P: Print + Eprint>(rt: &P, state: State, out: &mut [u8])
     requires { state.used ≤ length out.old }
-    ensures { (result.from ≡ 0) × (result.len ≡ 0) × (result.used ≡ 0) }
 {
-    let progress = state.progress;
-    if state.from < state.len {
-        finish(rt, Ending::Odd, state.used, out);
-        return over(progress);
-    }
-    finish(rt, Ending::End(progress.count), state.used, out);
-    over(progress)
+    let ending = if state.from < state.len {
+        Ending::Odd
+    } else {
+        Ending::End(state.progress.count)
+    };
+    finish(rt, ending, state.used, out);
 }
 
-// One turn: words that are left are listed; otherwise the next buffer is read, until there is none. Buffers are of even length, so
+// One turn: words that are left are listed; otherwise the next buffer is read, until one is not filled. Buffers are of even length, so
 // a byte without its other half is left at the end of the input only.
 fn turn<R: Read, P: Print + Eprint>(
     input: &mut R,
@@ -223,50 +157,49 @@ fn turn<R: Read, P: Print + Eprint>(
     state: State,
     bytes: &mut [u8],
     out: &mut [u8],
-) -> State
+) -> Option<State>
     requires { Within state bytes.old out.old }
-    ensures { Within result bytes.new out.new }
+    ensures { IfSome result (λ next. Within next bytes.new out.new) }
 {
     if 1 < state.len - state.from {
-        return list_rest(rt, state, bytes, out);
+        list_rest(rt, state, bytes, out)
+    } else if state.len < bytes.len() {
+        end(rt, state, out);
+        None
+    } else {
+        refill(input, rt, state, bytes, out)
     }
-    if state.ended {
-        return end(rt, state, out);
-    }
-    refill(input, rt, state, bytes, out)
 }
 
-// A proved loop has to end, and nothing says that an input does: the turns are counted down from a number that no run uses up.
+// A proved loop has to end, and nothing says that an input does: the turns are of a number that no run uses up.
 fn run<R: Read, P: Print + Eprint>(
     input: &mut R,
     rt: &P,
-    state: State,
+    mut state: State,
     bytes: &mut [u8],
     out: &mut [u8],
 )
     requires { Within state bytes.old out.old }
 {
-    let mut state = state;
-    let mut turns = u64::MAX;
-    while turns > 0 && state.going {
-        state = turn(input, rt, state, bytes, out);
-        turns -= 1;
+    for _ in 0..u64::MAX {
+        let Some(next) = turn(input, rt, state, bytes, out) else {
+            return;
+        };
+        state = next;
     }
 }
 
+// The first turn reads, as behind a full buffer that is listed.
 fn main(rt: HostRuntime) {
     let heading = listing::heading();
-    let mut out = [0u8; ROOM];
-    wire::place(&heading, &mut out, 0);
-    let mut bytes = [0u8; BYTES];
-    let progress = listing::start();
+    let mut out = [0; ROOM];
+    out[..heading.len()].copy_from_slice(&heading);
+    let mut bytes = [0; BYTES];
     let state = State {
-        progress,
-        from: 0,
-        len: 0,
+        progress: listing::start(),
+        from: BYTES,
+        len: BYTES,
         used: heading.len(),
-        ended: false,
-        going: true,
     };
     run(&mut rt.stdin(), &rt, state, &mut bytes, &mut out);
 }

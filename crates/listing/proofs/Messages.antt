@@ -5,8 +5,6 @@ use Rattle.refusal.proofs.Logic.{and_left, and_right}
 use Rattle.refusal.specs.Lists.{every}
 use Rattle.wire.specs.Word.{valid_words}
 use Rattle.message.specs.declared.Message.{Message}
-use Rattle.message.specs.declared.Parsed.{Parsed}
-use Rattle.message.specs.declared.Parsed.TheVariants.{Heard, Unheard}
 use Rattle.hearing.specs.declared.Pending.{Pending}
 use Rattle.hearing.specs.Hearing.{none, hear, before, heard_from, heard}
 use Rattle.wire.specs.Bytes.{word_of}
@@ -15,6 +13,7 @@ use Rattle.listing.specs.declared.Progress.{Progress}
 use Rattle.listing.specs.declared.Ending.TheVariants as ending
 use Rattle.listing.specs.Listing.{heading, next_position, start, line_for, count_after, line_at, after, last_line, listing_from, listing}
 use Rattle.listing.proofs.Whole.{word_good}
+use Rattle.std.specs.Prelude.{None, Option, Some}
 
 -- the bytes of a recording's words, low byte first
 unfoldable pub word_bytes : List ℕ → List ℕ
@@ -34,15 +33,15 @@ pub position_plain : (n : ℕ) → suc n < 2 ^ 64 → next_position n ≡ suc n
 unfolding next_position
 position_plain n h = omega arith
 
-count_one : (o : Parsed) (n : ℕ) (ms : List Message) → suc n < 2 ^ 64 → count_after n o + length ms ≡ n + length (before o ms)
+count_one : (o : Option Message) (n : ℕ) (ms : List Message) → suc n < 2 ^ 64 → count_after n o + length ms ≡ n + length (before o ms)
 unfolding count_after
-count_one (Heard m) n ms h = omega (arith, position_plain n h, ap length (before_heard m ms))
-count_one Unheard n ms h = ap (λ (l : List Message). n + length l) (sym (before_unheard ms))
+count_one (Some m) n ms h = omega (arith, position_plain n h, ap length (before_heard m ms))
+count_one None n ms h = ap (λ (l : List Message). n + length l) (sym (before_unheard ms))
 
-count_most : (o : Parsed) (n at : ℕ) → n ≤ at → suc at < 2 ^ 64 → count_after n o ≤ suc at
+count_most : (o : Option Message) (n at : ℕ) → n ≤ at → suc at < 2 ^ 64 → count_after n o ≤ suc at
 unfolding count_after
-count_most (Heard m) n at l h = omega (arith, position_plain n (omega arith))
-count_most Unheard n at l h = omega arith
+count_most (Some m) n at l h = omega (arith, position_plain n (omega arith))
+count_most None n at l h = omega arith
 
 -- a good word in front
 pub one_word : (p : Progress) (w : ℕ) (bytes : List ℕ) → leb w 256 ≡ true → listing_from p ((w % 256) ∷ (w / 256) ∷ bytes) ≡ line_at p w ++ listing_from (after p w) bytes

@@ -3,8 +3,6 @@
 use Rattle.std.proofs.Common.{◌≡◌, ℕ, suc, ◌+◌, ◌^◌, ◌<◌, ◌≤◌, true, List, [], ◌∷◌, ◌++◌, length, sym, ap, ◌∙◌, subst, ap₂, append_assoc, append-nil, add-zero, arith, lit<, length-append, le-leb}
 use Rattle.wire.specs.Word.{with_parity, travelling}
 use Rattle.wire.proofs.Words.{written_byte, travelling_append}
-use Rattle.message.specs.declared.Parsed.{Parsed}
-use Rattle.message.specs.declared.Parsed.TheVariants.{Unheard}
 use Rattle.message.specs.Message.{star, is_letter}
 use Rattle.message.specs.Prefix.{parse}
 use Rattle.message.proofs.Messages.{Plain}
@@ -15,6 +13,8 @@ use Rattle.hearing.proofs.Heard.{OpenChars, none_holds, added_holds, hear_open, 
 use Rattle.listing.specs.declared.Progress.{Progress}
 use Rattle.listing.specs.Listing.{next_position, line_for, count_after, line_at, after, listing_from}
 use Rattle.listing.proofs.Messages.{word_bytes, one_word, position_plain}
+use Rattle.std.specs.Prelude.{None, Option}
+use Rattle.message.specs.declared.Message.{Message}
 
 abbrev pub progress_at : Pending → ℕ → ℕ → Progress
 progress_at q at n = record { pending = q; at = at; count = n }
@@ -29,10 +29,10 @@ module _ (q : Pending) (at n : ℕ) (room : suc at < 2 ^ 64) where
       ∙ ap (λ (x : Hearing). line_for at x.message ++ listing_from (progress_at x.pending (next_position at) (count_after n x.message)) (word_bytes ws)) e
       ∙ ap (λ (k : ℕ). line_for at h.message ++ listing_from (progress_at h.pending k (count_after n h.message)) (word_bytes ws)) (position_plain at room)
 
-  pub character_unheard : (c : ℕ) (ws : List ℕ) (q' : Pending) → hear q (with_parity c) ≡ record { pending = q'; message = Unheard }
+  pub character_unheard : (c : ℕ) (ws : List ℕ) (q' : Pending) → hear q (with_parity c) ≡ record { pending = q'; message = None }
       → listing_from (progress_at q at n) (word_bytes (with_parity c ∷ ws)) ≡ listing_from (progress_at q' (suc at) n) (word_bytes ws)
   unfolding line_for count_after
-  character_unheard c ws q' e = character_heard c ws (record { pending = q'; message = Unheard }) e
+  character_unheard c ws q' e = character_heard c ws (record { pending = q'; message = None }) e
 
 -- the characters ds are added to cs
 record Adding (q : Pending) (cs ds : List ℕ) (at n : ℕ) (ws : List ℕ) : Type 0 where
@@ -60,7 +60,7 @@ adding q cs (d ∷ ds) at n ws h l m p b =
           ∙ ap (λ (j : ℕ). listing_from (progress_at r.last j n) (word_bytes ws)) k;
     }
 
-pub spoken : (c : ℕ) (cs : List ℕ) (at n : ℕ) (ws : List ℕ) (o : Parsed) → is_letter c ≡ true → Plain cs → length cs ≤ 9 → at + length cs + 2 < 2 ^ 64 → parse (c ∷ cs) ≡ o
+pub spoken : (c : ℕ) (cs : List ℕ) (at n : ℕ) (ws : List ℕ) (o : Option Message) → is_letter c ≡ true → Plain cs → length cs ≤ 9 → at + length cs + 2 < 2 ^ 64 → parse (c ∷ cs) ≡ o
     → listing_from (progress_at none at n) (word_bytes (travelling (c ∷ (cs ++ (star ∷ []))) ++ ws)) ≡ line_for (at + length cs + 1) o ++ listing_from (progress_at none (at + length cs + 2) (count_after n o)) (word_bytes ws)
 unfolding travelling
 spoken c cs at n ws o e p l b q =
@@ -75,5 +75,5 @@ spoken c cs at n ws o e p l b q =
     ∙ ap (λ (l : List ℕ). listing_from (progress_at (added none c) (suc at) n) (word_bytes l)) parts
     ∙ r.lists
     ∙ character_heard r.last (suc at + length cs) n (omega arith) star ws (record { pending = none; message = parse (open_of r.last) }) (hear_star r.last (omega (arith, r.holds.len_is)))
-    ∙ ap (λ (x : Parsed). line_for (suc at + length cs) x ++ listing_from (progress_at none (suc (suc at + length cs)) (count_after n x)) (word_bytes ws)) is
+    ∙ ap (λ (x : Option Message). line_for (suc at + length cs) x ++ listing_from (progress_at none (suc (suc at + length cs)) (count_after n x)) (word_bytes ws)) is
     ∙ ap₂ (λ (x y : ℕ). line_for x o ++ listing_from (progress_at none y (count_after n o)) (word_bytes ws)) j k

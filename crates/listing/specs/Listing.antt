@@ -3,8 +3,6 @@ use Rattle.std.specs.Prelude.{ℕ, ◌+◌, ◌-◌, ◌%◌, ◌^◌, cond, Lis
 use Rattle.refusal.specs.Buffer.{laid}
 use Rattle.wire.specs.Text.{chars}
 use Rattle.wire.specs.Bytes.{word_of}
-use Rattle.message.specs.declared.Parsed.{Parsed}
-use Rattle.message.specs.declared.Parsed.TheVariants.{Heard, Unheard}
 use Rattle.hearing.specs.Hearing.{none, hear}
 use Rattle.listing.specs.declared.Progress.{Progress}
 use Rattle.listing.specs.declared.Stop.{Stop}
@@ -13,6 +11,8 @@ use Rattle.listing.specs.declared.Listed.{Listed}
 use Rattle.listing.specs.declared.Ending.{Ending}
 use Rattle.listing.specs.declared.Ending.TheVariants as ending
 use Rattle.listing.specs.Line.{decimal, line}
+use Rattle.std.specs.Prelude.{None, Option, Some}
+use Rattle.message.specs.declared.Message.{Message}
 
 -- document 01: "The first line is always the bytes `AT CARD ID KIND DATA`."
 abbrev pub heading : List ℕ
@@ -27,14 +27,14 @@ unfoldable pub start : Progress
 start = record { pending = none; at = 0; count = 0 }
 
 -- document 01: "one line for each heard message"
-unfoldable pub line_for : ℕ → Parsed → List ℕ
-line_for at (Heard m) = line at m
-line_for at Unheard = []
+unfoldable pub line_for : ℕ → Option Message → List ℕ
+line_for at (Some m) = line at m
+line_for at None = []
 
 -- document 01: "`END` gives the number of messages"
-unfoldable pub count_after : ℕ → Parsed → ℕ
-count_after n (Heard m) = next_position n
-count_after n Unheard = n
+unfoldable pub count_after : ℕ → Option Message → ℕ
+count_after n (Some m) = next_position n
+count_after n None = n
 
 -- what a word adds to the listing, and how far it is then
 unfoldable pub line_at : Progress → ℕ → List ℕ

@@ -17,8 +17,6 @@ use Rattle.number.specs.Data.{digit, is_digit, read_next}
 use Rattle.number.proofs.Reading.{partial_viable}
 use Rattle.message.specs.declared.Body.TheVariants.{Status, Query, Set}
 use Rattle.message.specs.declared.Message.{Message}
-use Rattle.message.specs.declared.Parsed.{Parsed}
-use Rattle.message.specs.declared.Parsed.TheVariants.{Heard, Unheard}
 use Rattle.message.specs.declared.Prefix.{Prefix}
 use Rattle.message.specs.declared.Prefix.TheVariants.{Start, Letter, Digit, Address, Identifier, Digits, Complete, Wrong}
 use Rattle.message.specs.Message.{star, question, is_letter, is_address, is_identifier}
@@ -29,6 +27,7 @@ use Rattle.message.proofs.Reading.{Known, known_scan, extend_letter, extend_firs
 use Rattle.message.proofs.Places.{leads, wrong_stays, wrong_count}
 use Rattle.message.proofs.Short.{unheard}
 use Rattle.message.proofs.Matched.{wrong_is, matched_most, matched_stays, matched_greatest}
+use Rattle.std.specs.Prelude.{None, Option, Some}
 
 -- ---- a state is completed
 
@@ -36,7 +35,7 @@ use Rattle.message.proofs.Matched.{wrong_is, matched_most, matched_stays, matche
 pub record Completion (s : Prefix) : Type 0 where
   pub rest : List ℕ
   pub made : Message
-  pub heard : leads s rest ≡ Heard made
+  pub heard : leads s rest ≡ Some made
 
 -- by one character, and what completes the state behind it
 by_one : (s : Prefix) (c : ℕ) {t : Prefix} → extend s c ≡ t → Completion t → Completion s
@@ -114,7 +113,7 @@ split (x ∷ xs) rest (c ∷ cs) p e =
     let q : c ∷ cs ≡ x ∷ (xs ++ r.0) = (λ j. head-eq_of_cons-eq (sym e) j ∷ r.1 j) in (r.0, q, r.2)
 
 -- what is heard was never wrong
-heard_right : (s : Prefix) (ys : List ℕ) (m : Message) → leads s ys ≡ Heard m → is_wrong s ≡ false
+heard_right : (s : Prefix) (ys : List ℕ) (m : Message) → leads s ys ≡ Some m → is_wrong s ≡ false
 heard_right s ys m e =
     by-test (is_wrong s)
     (λ t. absurd (unheard (sym (ap (λ (u : Prefix). leads u ys) (wrong_is s t) ∙ wrong_stays ys) ∙ e)))
@@ -142,7 +141,7 @@ star_wrong (Complete m) = refl
 star_wrong Wrong = refl
 
 -- with its `*`, only what is heard
-possible_heard : (cs : List ℕ) → Plain cs → Possible (cs ++ (star ∷ [])) → (m : Message) × (parse cs ≡ Heard m)
+possible_heard : (cs : List ℕ) → Plain cs → Possible (cs ++ (star ∷ [])) → (m : Message) × (parse cs ≡ Some m)
 unfolding parse extend_all
 possible_heard cs p w =
     let r = split cs (star ∷ w.0) w.1.characters p (sym (append_assoc cs (star ∷ []) w.0) ∙ w.1.closed) in
@@ -154,7 +153,7 @@ possible_heard cs p w =
     m : Message
     m = w.1.message
 
-    go : (ys : List ℕ) → star ∷ w.0 ≡ ys ++ (star ∷ []) → leads s ys ≡ Heard m → leads s [] ≡ Heard m
+    go : (ys : List ℕ) → star ∷ w.0 ≡ ys ++ (star ∷ []) → leads s ys ≡ Some m → leads s [] ≡ Some m
     go [] q e = e
     go (y ∷ ys) q e =
         let wrong : extend s y ≡ Wrong = ap (extend s) (sym (head-eq_of_cons-eq q)) ∙ star_wrong s in
@@ -188,13 +187,13 @@ plain_take zero cs p = tt
 plain_take (suc n) [] p = tt
 plain_take (suc n) (c ∷ cs) p = (p.0, plain_take n cs p.1)
 
-by_parsed : {X : Type 0} (x : Parsed) → ((m : Message) → x ≡ Heard m → X) → (x ≡ Unheard → X) → X
-by_parsed (Heard m) f g = f m refl
-by_parsed Unheard f g = g refl
+by_parsed : {X : Type 0} (x : Option Message) → ((m : Message) → x ≡ Some m → X) → (x ≡ None → X) → X
+by_parsed (Some m) f g = f m refl
+by_parsed None f g = g refl
 
 -- of characters without a `*`, as the first `*` closes a message
 module _ (cs : List ℕ) (plain : Plain cs) where
-  pub position_is : parse cs ≡ Unheard → Impossible (cs ++ (star ∷ [])) (position cs)
+  pub position_is : parse cs ≡ None → Impossible (cs ++ (star ∷ [])) (position cs)
   unfolding position is_wrong
   position_is e = record {
     inside = omega (arith, matched_most Start cs, length-append cs (star ∷ []));
@@ -215,16 +214,16 @@ module _ (cs : List ℕ) (plain : Plain cs) where
       p : ℕ
       p = matched Start cs
 
-  pub well_formed : (m : Message) → parse cs ≡ Heard m → WellFormed (cs ++ (star ∷ []))
+  pub well_formed : (m : Message) → parse cs ≡ Some m → WellFormed (cs ++ (star ∷ []))
   well_formed m e = record { characters = cs; message = m; closed = refl; heard = e }
 
-  pub position_only : (p : ℕ) → Impossible (cs ++ (star ∷ [])) p → (parse cs ≡ Unheard) × (p ≡ position cs)
+  pub position_only : (p : ℕ) → Impossible (cs ++ (star ∷ [])) p → (parse cs ≡ None) × (p ≡ position cs)
   position_only p i =
       by_parsed (parse cs)
       (λ m e. absurd (well_formed_never (cs ++ (star ∷ [])) (well_formed m e) p i))
       (λ e. (e, impossible_once (cs ++ (star ∷ [])) p (position cs) i (position_is e)))
 
-  pub well_formed_heard : WellFormed (cs ++ (star ∷ [])) → (m : Message) × (parse cs ≡ Heard m)
+  pub well_formed_heard : WellFormed (cs ++ (star ∷ [])) → (m : Message) × (parse cs ≡ Some m)
   well_formed_heard w =
       by_parsed (parse cs) (λ m e. (m, e)) (λ e. absurd (well_formed_never (cs ++ (star ∷ [])) w (position cs) (position_is e)))
 
@@ -241,7 +240,7 @@ unfolding position matched is_wrong
 position_least c cs e = rw (extend_letter c e) (omega arith)
 
 -- at most ten characters are ever open
-pub position_most : (cs : List ℕ) → length cs ≤ 10 → parse cs ≡ Unheard → position cs ≤ 9
+pub position_most : (cs : List ℕ) → length cs ≤ 10 → parse cs ≡ None → position cs ≤ 9
 unfolding position parse extend_all is_wrong
 position_most cs h e =
     let p = matched Start cs in
@@ -254,12 +253,12 @@ position_most cs h e =
     omega (arith, matched_most Start cs, open_most r.rest r.made r.heard))
   where
     -- a message is longer
-    open_most : (rest : List ℕ) (m : Message) → leads (extend_all Start cs) rest ≡ Heard m → length cs ≤ 9
+    open_most : (rest : List ℕ) (m : Message) → leads (extend_all Start cs) rest ≡ Some m → length cs ≤ 9
     open_most [] m q = absurd (unheard (sym e ∙ q))
     open_most (c ∷ rest) m q =
         by-test (ltb 9 (length cs))
         (λ t.
-        let long : parse (cs ++ (c ∷ rest)) ≡ Unheard
+        let long : parse (cs ++ (c ∷ rest)) ≡ None
         = wrong_count (cs ++ (c ∷ rest)) (λ a b. omega (arith, length-append cs (c ∷ rest), ltb-true 9 (length cs) t)) in
         absurd (unheard (sym long ∙ ap finish (all_append Start cs (c ∷ rest)) ∙ q)))
         (λ t. omega (arith, ltb-false 9 (length cs) t))

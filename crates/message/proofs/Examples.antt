@@ -14,12 +14,12 @@ use Rattle.refusal.proofs.Logic.{and_left, and_right, not_is}
 use Rattle.wire.specs.Text.{chars}
 use Rattle.number.specs.Data.{digit, is_digit, digit_of, decode, read_next, with_decimals, numeral, minus_zero_with}
 use Rattle.message.specs.declared.Body.TheVariants.{Query, Set}
-use Rattle.message.specs.declared.Parsed.TheVariants.{Heard}
 use Rattle.message.specs.Message.{star, is_letter, is_address, is_identifier}
 use Rattle.message.specs.Prefix.{message, extend_identifier, extend_address, extend_data, extend_body, extend, extend_all, finish, parse}
 use Rattle.message.specs.Position.{is_wrong, matched, position}
 use Rattle.message.specs.Spell.{spell_address}
 use Rattle.message.proofs.Messages.{Plain}
+use Rattle.std.specs.Prelude.{Some}
 
 -- ---- an address
 
@@ -52,16 +52,16 @@ pub x_no_letter : is_letter (code "x") ≡ false
 unfolding is_letter
 x_no_letter = refl
 
-pub query_parsed : parse (chars "L07M?") ≡ Heard (message (code "L") 7 (code "M") Query)
+pub query_parsed : parse (chars "L07M?") ≡ Some (message (code "L") 7 (code "M") Query)
 unfolding is_digit digit_of is_letter is_address is_identifier extend_identifier extend_address extend_body extend extend_all finish parse
 query_parsed = refl
 
-pub set_parsed : parse (chars "L7m#00231") ≡ Heard (message (code "L") 7 (code "m") (Set (numeral (with_decimals (pos 23) 1))))
+pub set_parsed : parse (chars "L7m#00231") ≡ Some (message (code "L") 7 (code "m") (Set (numeral (with_decimals (pos 23) 1))))
 unfolding is_digit digit_of decode read_next is_letter is_address is_identifier extend_identifier extend_address extend_data extend_body extend extend_all finish parse
 set_parsed = refl
 
 -- minus zero is not heard as zero
-pub minus_zero_parsed : parse (chars "L7J#00006") ≡ Heard (message (code "L") 7 (code "J") (Set (minus_zero_with 1)))
+pub minus_zero_parsed : parse (chars "L7J#00006") ≡ Some (message (code "L") 7 (code "J") (Set (minus_zero_with 1)))
 unfolding is_digit digit_of decode read_next is_letter is_address is_identifier extend_identifier extend_address extend_data extend_body extend extend_all finish parse
 minus_zero_parsed = refl
 

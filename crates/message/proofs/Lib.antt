@@ -1,6 +1,7 @@
 pub mod Messages
 pub mod Reading
 pub mod Places
+pub mod Behind
 pub mod Spelling
 pub mod Short
 pub mod Examples

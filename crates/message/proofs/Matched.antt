@@ -13,7 +13,7 @@ use Rattle.refusal.proofs.Logic.{choice}
 use Rattle.message.specs.declared.Prefix.{Prefix}
 use Rattle.message.specs.declared.Prefix.TheVariants.{Start, Letter, Digit, Address, Identifier, Digits, Complete, Wrong}
 use Rattle.message.specs.Prefix.{extend, extend_all}
-use Rattle.message.specs.Position.{is_wrong, matched}
+use Rattle.message.specs.Position.{is_wrong, matched, position}
 use Rattle.message.proofs.Places.{wrong_all}
 
 -- ---- the one wrong state
@@ -45,6 +45,27 @@ module _ (s : Prefix) (cs : List ℕ) (i : ℕ) where
         → matched s (drop i cs) ≡ suc (matched (extend s (get_or cs i 0)) (drop (i + 1) cs))
     unfolding matched
     matched_on e = rw (add-one, drop-cons cs i 0 h) (rw e)
+
+-- ---- the position, in a loop that has come to the place `at` with the state s
+
+pub record At (cs : List ℕ) (s : Prefix) (at : ℕ) : Type 0 where
+  pub is : at + matched s (drop at cs) ≡ position cs
+
+pub position_starts : (cs : List ℕ) → At cs Start 0
+unfolding position
+position_starts cs = record { is = omega arith }
+
+module _ (cs : List ℕ) (s t : Prefix) (at : ℕ) (p : At cs s at) where
+  module _ (h : at < length cs) (e : t ≡ extend s (get_or cs at 0)) where
+    pub position_on : is_wrong t ≡ false → At cs t (at + 1)
+    position_on f =
+        record { is = ap (λ (u : Prefix). at + 1 + matched u (drop (at + 1) cs)) e ∙ omega (arith, p.is, matched_on s cs at h (ap is_wrong (sym e) ∙ f)) }
+
+    pub position_here : is_wrong t ≡ true → at ≡ position cs
+    position_here f = omega (arith, p.is, matched_here s cs at h (ap is_wrong (sym e) ∙ f))
+
+pub position_end : (cs : List ℕ) (s : Prefix) (at : ℕ) → At cs s at → length cs ≤ at → at ≡ position cs
+position_end cs s at p h = omega (arith, p.is, matched_end s cs at h)
 
 -- ---- the greatest number of characters that does not lead to the wrong state
 

@@ -20,8 +20,6 @@ use Rattle.number.specs.declared.Numeral.{Numeral}
 use Rattle.number.proofs.Digits.{digit_ends}
 use Rattle.number.proofs.Reading.{read_length}
 use Rattle.message.specs.declared.Message.{Message}
-use Rattle.message.specs.declared.Parsed.{Parsed}
-use Rattle.message.specs.declared.Parsed.TheVariants.{Unheard}
 use Rattle.message.specs.declared.Prefix.{Prefix}
 use Rattle.message.specs.declared.Prefix.TheVariants.{Start, Digit, Address, Identifier, Complete, Wrong}
 use Rattle.message.specs.Message.{question, is_letter, is_address, is_identifier}
@@ -29,6 +27,7 @@ use Rattle.message.specs.Prefix.{extend_identifier, extend_address, extend_data,
 use Rattle.message.specs.Spell.{spell_address}
 use Rattle.message.proofs.Messages.{Unopening, identifier_no_digit}
 use Rattle.message.proofs.Reading.{all_front, all_data, extend_hash}
+use Rattle.std.specs.Prelude.{None, Option}
 
 -- ---- the characters from an index on
 
@@ -45,7 +44,7 @@ pub part_all : (cs : List ℕ) (i : ℕ) → take (length cs - i) (drop i cs) �
 part_all cs i = take_all (length cs - i) (drop i cs) (omega (arith, length-drop i cs))
 
 -- what the rest leads to from a state
-abbrev pub leads : Prefix → List ℕ → Parsed
+abbrev pub leads : Prefix → List ℕ → Option Message
 leads s cs = finish (extend_all s cs)
 
 -- ---- what is wrong stays wrong
@@ -55,12 +54,12 @@ unfolding extend_all extend
 wrong_all [] = refl
 wrong_all (c ∷ cs) = wrong_all cs
 
-pub wrong_stays : (cs : List ℕ) → leads Wrong cs ≡ Unheard
+pub wrong_stays : (cs : List ℕ) → leads Wrong cs ≡ None
 unfolding finish
 wrong_stays cs = ap finish (wrong_all cs)
 
 -- nothing stands behind a whole message
-pub nothing_behind : (m : Message) (cs : List ℕ) → 0 < length cs → leads (Complete m) cs ≡ Unheard
+pub nothing_behind : (m : Message) (cs : List ℕ) → 0 < length cs → leads (Complete m) cs ≡ None
 unfolding extend_all extend
 nothing_behind m [] h = absurd (omega arith)
 nothing_behind m (c ∷ cs) h = wrong_stays cs
@@ -79,11 +78,11 @@ last_two s cs i h =
 
 -- ---- letter and address
 
-pub no_letter : (l d : ℕ) (cs : List ℕ) → is_letter l ≡ false → leads (extend (extend Start l) d) cs ≡ Unheard
+pub no_letter : (l d : ℕ) (cs : List ℕ) → is_letter l ≡ false → leads (extend (extend Start l) d) cs ≡ None
 unfolding extend
 no_letter l d cs e = rw e (wrong_stays cs)
 
-pub no_digit : (l d : ℕ) (cs : List ℕ) → is_letter l ≡ true → is_digit d ≡ false → leads (extend (extend Start l) d) cs ≡ Unheard
+pub no_digit : (l d : ℕ) (cs : List ℕ) → is_letter l ≡ true → is_digit d ≡ false → leads (extend (extend Start l) d) cs ≡ None
 unfolding extend
 no_digit l d cs p q = rw (p, q) (wrong_stays cs)
 
@@ -91,7 +90,7 @@ pub first_digit : (l d : ℕ) → is_letter l ≡ true → is_digit d ≡ true �
 unfolding extend
 first_digit l d p q = rw (p, q)
 
-pub no_address : (l a : ℕ) (cs : List ℕ) → is_address a ≡ false → leads (Address l a) cs ≡ Unheard
+pub no_address : (l a : ℕ) (cs : List ℕ) → is_address a ≡ false → leads (Address l a) cs ≡ None
 unfolding extend_all extend extend_identifier finish
 no_address l a [] e = refl
 no_address l a (c ∷ cs) e = rw e (wrong_stays cs)
@@ -110,20 +109,20 @@ one_digit l d c e = rw e
 
 -- ---- the identifier
 
-pub no_body : (l a : ℕ) (cs : List ℕ) → length cs < 2 → leads (Address l a) cs ≡ Unheard
+pub no_body : (l a : ℕ) (cs : List ℕ) → length cs < 2 → leads (Address l a) cs ≡ None
 unfolding extend_all extend extend_identifier finish
 no_body l a [] h = refl
-no_body l a (c ∷ []) h = choice (λ (s : Prefix). finish s ≡ Unheard) (is_address a && is_identifier c) (λ t. refl) (λ t. refl)
+no_body l a (c ∷ []) h = choice (λ (s : Prefix). finish s ≡ None) (is_address a && is_identifier c) (λ t. refl) (λ t. refl)
 no_body l a (c ∷ d ∷ cs) h = absurd (omega arith)
 
-pub no_identifier : (l a i c : ℕ) (cs : List ℕ) → (is_address a && is_identifier i) ≡ false → leads (extend (extend (Address l a) i) c) cs ≡ Unheard
+pub no_identifier : (l a i c : ℕ) (cs : List ℕ) → (is_address a && is_identifier i) ≡ false → leads (extend (extend (Address l a) i) c) cs ≡ None
 unfolding extend extend_identifier
 no_identifier l a i c cs e = rw e (wrong_stays cs)
 
-digit_behind : (l a c : ℕ) (cs : List ℕ) → is_digit c ≡ true → leads (extend (Address l a) c) cs ≡ Unheard
+digit_behind : (l a c : ℕ) (cs : List ℕ) → is_digit c ≡ true → leads (extend (Address l a) c) cs ≡ None
 unfolding extend extend_identifier
 digit_behind l a c cs e =
-    choice (λ (s : Prefix). leads s cs ≡ Unheard) (is_address a && is_identifier c)
+    choice (λ (s : Prefix). leads s cs ≡ None) (is_address a && is_identifier c)
     (λ t. absurd (false≢true (sym (identifier_no_digit c (search ands)) ∙ e))) (λ t. wrong_stays cs)
 
 pub identifier : (l a i : ℕ) → (is_address a && is_identifier i) ≡ true → extend (Address l a) i ≡ Identifier l a i
@@ -133,7 +132,7 @@ identifier l a i e = rw e
 -- ---- the body
 
 -- behind an identifier no more than one character stands, but behind `#`
-pub no_more : (l a i c : ℕ) (cs : List ℕ) → 0 < length cs → (eqb c (code "#") && not (eqb i question)) ≡ false → leads (extend (Identifier l a i) c) cs ≡ Unheard
+pub no_more : (l a i c : ℕ) (cs : List ℕ) → 0 < length cs → (eqb c (code "#") && not (eqb i question)) ≡ false → leads (extend (Identifier l a i) c) cs ≡ None
 unfolding extend extend_body
 no_more l a i c cs h e =
     choice P (eqb i question)
@@ -146,9 +145,9 @@ no_more l a i c cs h e =
     (λ _. choice P (eqb c (code "#")) (λ u. absurd (false≢true (sym e ∙ rw (u, t)))) (λ _. wrong_stays cs))))))
   where
     P : Prefix → Type 0
-    P s = leads s cs ≡ Unheard
+    P s = leads s cs ≡ None
 
-    behind : (m : Message) → leads (Complete m) cs ≡ Unheard
+    behind : (m : Message) → leads (Complete m) cs ≡ None
     behind m = nothing_behind m cs h
 
 -- no body begins with a digit
@@ -168,7 +167,7 @@ status_wrong l a i c p q = rw (p, q)
 
 -- behind letter, address and identifier stands a character with which no body begins
 pub wrong_body : (l a i c : ℕ) (cs : List ℕ) → is_letter l ≡ true → is_address a ≡ true → is_identifier i ≡ true → extend (Identifier l a i) c ≡ Wrong
-    → parse (l ∷ (spell_address a ++ (i ∷ c ∷ cs))) ≡ Unheard
+    → parse (l ∷ (spell_address a ++ (i ∷ c ∷ cs))) ≡ None
 unfolding parse extend_all
 wrong_body l a i c cs p q r e = ap finish (all_front l a i (c ∷ cs) p q r ∙ ap (λ (s : Prefix). extend_all s cs) e) ∙ wrong_stays cs
 
@@ -178,13 +177,13 @@ unfolding read_data
 behind_hash l a i cs e = ap (λ (s : Prefix). leads s cs) (extend_hash l a i (is_not e)) ∙ ap finish (all_data l a i start cs)
 
 -- data that is no number is unheard
-pub no-number : (l a i : ℕ) (x : Data) → ((y : Numeral) → x ≡ Number y → ⊥) → finish (extend_data l a i x) ≡ Unheard
+pub no-number : (l a i : ℕ) (x : Data) → ((y : Numeral) → x ≡ Number y → ⊥) → finish (extend_data l a i x) ≡ None
 unfolding extend_data finish
 no-number l a i (Partial k n) f = refl
 no-number l a i (Number y) f = absurd (f y refl)
 no-number l a i Invalid f = refl
 
-pub not_five : (l a i : ℕ) (cs : List ℕ) → (length cs ≡ 5 → ⊥) → finish (extend_data l a i (read_data cs)) ≡ Unheard
+pub not_five : (l a i : ℕ) (cs : List ℕ) → (length cs ≡ 5 → ⊥) → finish (extend_data l a i (read_data cs)) ≡ None
 not_five l a i cs f = no-number l a i (read_data cs) (λ y e. f (read_length cs y e))
 
 pub five_are : (cs : List ℕ) → length cs ≡ 5 → get_or cs 0 0 ∷ get_or cs 1 0 ∷ get_or cs 2 0 ∷ get_or cs 3 0 ∷ get_or cs 4 0 ∷ [] ≡ cs
@@ -199,7 +198,7 @@ five_are (a ∷ b ∷ c ∷ d ∷ e ∷ f ∷ cs) h = absurd (omega arith)
 -- ---- the length
 
 -- behind an address stand two characters or seven
-pub wrong_length : (l a : ℕ) (cs : List ℕ) → (length cs ≡ 2 → ⊥) → (length cs ≡ 7 → ⊥) → leads (Address l a) cs ≡ Unheard
+pub wrong_length : (l a : ℕ) (cs : List ℕ) → (length cs ≡ 2 → ⊥) → (length cs ≡ 7 → ⊥) → leads (Address l a) cs ≡ None
 unfolding extend_all
 wrong_length l a [] f g = no_body l a [] (omega arith)
 wrong_length l a (i ∷ []) f g = no_body l a (i ∷ []) (omega arith)
@@ -229,10 +228,10 @@ one_is_all l d (c ∷ cs) f g =
     (λ t. ap (λ (s : Prefix). leads s cs) (one_digit l d c t))
 
 -- a message has four to ten characters
-pub wrong_count : (cs : List ℕ) → (4 ≤ length cs → length cs ≤ 10 → ⊥) → parse cs ≡ Unheard
+pub wrong_count : (cs : List ℕ) → (4 ≤ length cs → length cs ≤ 10 → ⊥) → parse cs ≡ None
 unfolding parse extend_all extend finish
 wrong_count [] f = refl
-wrong_count (l ∷ []) f = choice (λ (s : Prefix). finish s ≡ Unheard) (is_letter l) (λ t. refl) (λ t. refl)
+wrong_count (l ∷ []) f = choice (λ (s : Prefix). finish s ≡ None) (is_letter l) (λ t. refl) (λ t. refl)
 wrong_count (l ∷ d ∷ cs) f =
     by-test (is_letter l)
     (λ t.
@@ -244,10 +243,10 @@ wrong_count (l ∷ d ∷ cs) f =
     (λ u. no_digit l d cs t u))
     (λ t. no_letter l d cs t)
 
-pub too-short : (cs : List ℕ) → length cs < 4 → parse cs ≡ Unheard
+pub too-short : (cs : List ℕ) → length cs < 4 → parse cs ≡ None
 too-short cs h = wrong_count cs (λ a b. omega arith)
 
 -- a letter and characters behind it that are no message: ten at most, which is all that an open message holds, and read as none; or more,
 -- and no letter among those behind the first
 abbrev pub HeardAsNothing : ℕ → List ℕ → Type 0
-HeardAsNothing c cs = ((length (c ∷ cs) ≤ 10) × (parse (c ∷ cs) ≡ Unheard)) ⊎ ((10 ≤ length cs) × Unopening cs)
+HeardAsNothing c cs = ((length (c ∷ cs) ≤ 10) × (parse (c ∷ cs) ≡ None)) ⊎ ((10 ≤ length cs) × Unopening cs)

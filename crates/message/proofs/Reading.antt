@@ -18,14 +18,13 @@ use Rattle.number.proofs.Reading.{read_written, read_none, read-next, read_fits,
 use Rattle.message.specs.declared.Body.{Body}
 use Rattle.message.specs.declared.Body.TheVariants.{Status, Query, Up, Down, Set, Store}
 use Rattle.message.specs.declared.Message.{Message}
-use Rattle.message.specs.declared.Parsed.{Parsed}
-use Rattle.message.specs.declared.Parsed.TheVariants.{Heard, Unheard}
 use Rattle.message.specs.declared.Prefix.{Prefix}
 use Rattle.message.specs.declared.Prefix.TheVariants.{Start, Letter, Digit, Address, Identifier, Digits, Complete, Wrong}
 use Rattle.message.specs.Message.{question, is_letter, is_address, is_identifier, fits_body, is_message}
 use Rattle.message.specs.Prefix.{message, extend_identifier, extend_address, extend_data, extend_body, extend, extend_all, finish, parse}
 use Rattle.message.specs.Spell.{spell_address, kind_of, spell_kind, spell_body, spell_open}
 use Rattle.message.proofs.Messages.{Parts, parts, whole, address_most, identifier_no_digit}
+use Rattle.std.specs.Prelude.{None, Option, Some}
 
 -- ---- one character more, each under its test
 
@@ -111,7 +110,7 @@ all_spell m p =
     ∙ all_body m.letter m.address m.identifier m.body p.fits-body
 
 -- what is spelled is read
-pub parse_spell : (m : Message) → is_message m ≡ true → parse (spell_open m) ≡ Heard m
+pub parse_spell : (m : Message) → is_message m ≡ true → parse (spell_open m) ≡ Some m
 unfolding parse finish
 parse_spell m e = ap finish (all_spell m (parts m e))
 
@@ -192,9 +191,9 @@ known_scan s [] h = h
 known_scan s (c ∷ cs) h = known_scan (extend s c) cs (known_step s c h)
 
 -- what is heard is a message
-abbrev pub Heard-is : Parsed → Type 0
-Heard-is (Heard m) = is_message m ≡ true
-Heard-is Unheard = Unit {0}
+abbrev pub Heard-is : Option Message → Type 0
+Heard-is (Some m) = is_message m ≡ true
+Heard-is None = Unit {0}
 
 known_finish : (s : Prefix) → Known s → Heard-is (finish s)
 unfolding finish

@@ -20,12 +20,12 @@ use Rattle.number.proofs.Reading.{read_none, read-next, written_read}
 use Rattle.message.specs.declared.Body.{Body}
 use Rattle.message.specs.declared.Body.TheVariants.{Status, Query, Up, Down, Set, Store}
 use Rattle.message.specs.declared.Message.{Message}
-use Rattle.message.specs.declared.Parsed.TheVariants.{Heard, Unheard}
 use Rattle.message.specs.declared.Prefix.{Prefix}
 use Rattle.message.specs.declared.Prefix.TheVariants.{Start, Letter, Digit, Address, Identifier, Digits, Complete, Wrong}
 use Rattle.message.specs.Message.{star, question, is_letter, is_address, is_identifier}
 use Rattle.message.specs.Prefix.{message, extend_identifier, extend_address, extend_data, extend_body, extend, extend_all, finish, parse}
 use Rattle.message.specs.Spell.{spell_address, kind_of, spell_kind, spell_body, spell_open, spell}
+use Rattle.std.specs.Prelude.{None, Some}
 
 -- letter, address and identifier, and then these
 spelled_to : ℕ → ℕ → ℕ → List ℕ → List ℕ
@@ -155,10 +155,10 @@ taken_all s cs (d ∷ ds) h = subst (Taken (extend_all (extend s d) ds)) (append
 
 -- ---- what is heard
 
-pub unheard : {m : Message} → Unheard ≡ Heard m → ⊥
+pub unheard : {m : Message} → None ≡ Some m → ⊥
 unheard e = let z : ◌≡◌ {A = ℕ} 0 1 = cc in omega arith
 
-finished : (s : Prefix) (cs : List ℕ) (m : Message) → Taken s cs → finish s ≡ Heard m → SameOrLonger (spell_open m) cs
+finished : (s : Prefix) (cs : List ℕ) (m : Message) → Taken s cs → finish s ≡ Some m → SameOrLonger (spell_open m) cs
 unfolding finish
 finished Start cs m h e = absurd (unheard e)
 finished (Letter l) cs m h e = absurd (unheard e)
@@ -170,6 +170,6 @@ finished (Complete k) cs m h e = let q : k ≡ m = cc in subst (λ (x : Message)
 finished Wrong cs m h e = absurd (unheard e)
 
 -- document 02, ticket 7, for one message: what is heard as it is its spelling, or longer
-pub spelled_or_longer : (cs : List ℕ) (m : Message) → parse cs ≡ Heard m → SameOrLonger (spell m) (cs ++ (star ∷ []))
+pub spelled_or_longer : (cs : List ℕ) (m : Message) → parse cs ≡ Some m → SameOrLonger (spell m) (cs ++ (star ∷ []))
 unfolding parse spell
 spelled_or_longer cs m e = longer_behind (star ∷ []) (finished (extend_all Start cs) cs m (taken_all Start [] cs refl) e)

@@ -17,3 +17,6 @@ letter_digit l c e = rw e
 
 pub digit_least : (c : ℕ) → is_digit c ≡ true → 48 ≤ c
 digit_least c e = (digit_ends c e).0
+
+pub digit_most : (c : ℕ) → is_digit c ≡ true → c ≤ 57
+digit_most c e = (digit_ends c e).1

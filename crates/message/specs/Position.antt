@@ -1,11 +1,11 @@
 -- Where a closed message that is not well formed fails: by reading it, and by the well-formed messages alone.
 use Rattle.std.specs.Prelude.{◌≡◌, Bool, true, false, cond, List, [], ◌∷◌, ◌++◌, ℕ, suc, ◌<◌, length, take}
 use Rattle.message.specs.declared.Message.{Message}
-use Rattle.message.specs.declared.Parsed.TheVariants.{Heard}
 use Rattle.message.specs.declared.Prefix.{Prefix}
 use Rattle.message.specs.declared.Prefix.TheVariants.{Start, Letter, Digit, Address, Identifier, Digits, Complete, Wrong}
 use Rattle.message.specs.Message.{star}
 use Rattle.message.specs.Prefix.{extend, parse}
+use Rattle.std.specs.Prelude.{Some}
 
 -- whether no well-formed message begins so
 unfoldable pub is_wrong : Prefix → Bool
@@ -36,7 +36,7 @@ pub record WellFormed (xs : List ℕ) : Type 0 where
   pub characters : List ℕ
   pub message : Message
   pub closed : xs ≡ characters ++ (star ∷ [])
-  pub heard : parse characters ≡ Heard message
+  pub heard : parse characters ≡ Some message
 
 -- some well-formed message begins so
 abbrev pub Possible : List ℕ → Type 0

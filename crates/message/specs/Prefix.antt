@@ -8,11 +8,10 @@ use Rattle.number.specs.Data.{is_digit, digit_of, start, read_next}
 use Rattle.message.specs.declared.Body.{Body}
 use Rattle.message.specs.declared.Body.TheVariants.{Status, Query, Up, Down, Set, Store}
 use Rattle.message.specs.declared.Message.{Message}
-use Rattle.message.specs.declared.Parsed.{Parsed}
-use Rattle.message.specs.declared.Parsed.TheVariants.{Heard, Unheard}
 use Rattle.message.specs.declared.Prefix.{Prefix}
 use Rattle.message.specs.declared.Prefix.TheVariants.{Start, Letter, Digit, Address, Identifier, Digits, Complete, Wrong}
 use Rattle.message.specs.Message.{question, is_letter, is_address, is_identifier}
+use Rattle.std.specs.Prelude.{None, Option, Some}
 
 abbrev pub message : ℕ → ℕ → ℕ → Body → Message
 message l a i b = record { letter = l; address = a; identifier = i; body = b }
@@ -59,16 +58,16 @@ extend_all s [] = s
 extend_all s (c ∷ cs) = extend_all (extend s c) cs
 
 -- only a whole message is heard
-unfoldable pub finish : Prefix → Parsed
-finish Start = Unheard
-finish (Letter l) = Unheard
-finish (Digit l d) = Unheard
-finish (Address l a) = Unheard
-finish (Identifier l a i) = Unheard
-finish (Digits l a i x) = Unheard
-finish (Complete m) = Heard m
-finish Wrong = Unheard
+unfoldable pub finish : Prefix → Option Message
+finish Start = None
+finish (Letter l) = None
+finish (Digit l d) = None
+finish (Address l a) = None
+finish (Identifier l a i) = None
+finish (Digits l a i x) = None
+finish (Complete m) = Some m
+finish Wrong = None
 
 -- what the characters before a `*` are
-unfoldable pub parse : List ℕ → Parsed
+unfoldable pub parse : List ℕ → Option Message
 parse cs = finish (extend_all Start cs)

@@ -15,7 +15,7 @@ use Rattle.number.specs.Number.{in_range}
 use Rattle.sheet.specs.Sheet.{rows, sound_sheet}
 use Rattle.sheet.specs.Lookup.{code_is, is_for, row_among, place_among, row_in, place_in, has_row, row_of}
 use Rattle.sheet.specs.Values.{numbers_of, entry_of, entry_in, is_readable, is_readable_entry, sound_values}
-use Rattle.sheet.proofs.Sheets.{row_of_sound}
+use Rattle.sheet.proofs.SoundSheets.{row_of_sound}
 use Rattle.sheet.proofs.Tables.{sheet_test, sheet-test, allow_test, allowed_sound}
 use Rattle.models.specs.Table.{sheet_of, are_codes, filled, values_of}
 use Rattle.models.specs.Dcp100Controller.{dcp100_controller}

@@ -5,7 +5,7 @@ use Prim.Native.Char.{code}
 use Rattle.models.specs.Dcp100Controller.{dcp100_controller}
 use Rattle.models.specs.Dcp100Programmer.{dcp100_programmer}
 use Rattle.models.specs.Udi1500.{udi1500}
-use Rattle.models.specs.Scans.{dcp100_controller_scan, udi1500_scan}
+use Rattle.models.specs.Scans.{dcp100_controller_scan, dcp100_one_output_scan, udi1500_scan}
 
 -- the letter, the table, and the identifiers of the scan
 pub record Model : Type 0 where
@@ -16,6 +16,10 @@ pub record Model : Type 0 where
 -- DCP 100 controller, 003:644: "L is used for Controller parameters"
 unfoldable pub controller : Model
 controller = record { letter = code "L"; table = dcp100_controller; scan = dcp100_controller_scan }
+
+-- the same with one control output
+unfoldable pub one_output : Model
+one_output = record { letter = code "L"; table = dcp100_controller; scan = dcp100_one_output_scan }
 
 -- DCP 100 programmer, 003:644: "R is used for Programmer parameters"; it names no scan, 003:904-913
 unfoldable pub programmer : Model

@@ -1,15 +1,15 @@
-// The sheets of three real instruments, their initial values by character code, and the identifiers of their scans. A table has a line
-// for each row: identifier, access, decimals, step, least, greatest, initial value. specs/ has the same lines, with their places in the
-// manuals.
+// Three real instruments: the letter of a card, the sheet, the values at first by character code, and the identifiers of the scan.
+// A table has a line for each row: identifier, access, decimals, step, least, greatest, initial value. specs/ has the same lines, with
+// their places in the manuals.
 #![tactic(auto)]
 
-ghost use Rattle.std.specs.Prelude.{◌≡◌, true, ◌+◌, ◌*◌, ◌≤◌, length};
-ghost use Rattle.std.proofs.Math.Seq.{paste};
-ghost use Rattle.models.specs.Table.{sheet_of, are_codes, filled, values_of};
-ghost use Rattle.models.specs.Dcp100Controller.{dcp100_controller};
-ghost use Rattle.models.specs.Dcp100Programmer.{dcp100_programmer};
-ghost use Rattle.models.specs.Udi1500.{udi1500};
-ghost use Rattle.models.specs.Scans.{dcp100_controller_scan, dcp100_one_output_scan, udi1500_scan, padded};
+ghost use Rattle.std.specs.Prelude.{◌≡◌, true, ◌≤◌, length, take};
+ghost use Rattle.std.specs.List.{flat_map};
+ghost use Rattle.models.specs.Table.{sheet_of, are_codes, values_of};
+ghost use Rattle.models.specs.Scans.{dcp100_one_output_scan, padded};
+ghost use Rattle.models.specs.Model.{Model, controller, programmer, indicator, one_output};
+
+use std::marker::Model;
 
 // DCP 100 controller, letter `L`.
 const DCP100_CONTROLLER: [[i32; 7]; 28] = [
@@ -92,135 +92,111 @@ const UDI1500: [[i32; 7]; 19] = [
     [109, 2, 1, 5, 0, 1000, 20], // `m` Input Filter Time Constant value
 ];
 
-// The first six numbers of a line, from the place `at` of the sheet on. The contract also says that a line has seven numbers, since
-// callers need that.
-fn put_row(sheet: &mut [i32], at: usize, line: [i32; 7])
-    requires { at + 6 ≤ length sheet.old }
-    ensures { (sheet.new ≡ paste sheet.old at line 6) × (length line ≡ 7) }
-{
-    let mut k: usize = 0;
-    while k < 6 {
-        let place = at + k;
-        sheet[place] = line[k];
-        k += 1;
+// An instrument with so many rows: each identifier is a character code, and a scan has at most five. A scan is five bytes with 0 behind
+// the last and a count, as numbers 16 to 21 of a card's row in the C interface (a `&'static [u8]` instead: the borrow check has no rule).
+#[derive(Drop)]
+pub struct Instrument<const ROWS: usize> {
+    letter: u8,
+    table: [[i32; 7]; ROWS],
+    count: u8,
+    scan: [u8; 5],
+}
+
+impl<const ROWS: usize> Model for Instrument<ROWS> {
+    ghost Value = { Model };
+
+    ghost view = { λ s. record { letter = s.letter; table = s.table; scan = take s.count s.scan } };
+
+    ghost invariant = { λ s. (ROWS ≤ 128) × (are_codes s.table ≡ true) × (length (take s.count s.scan) ≡ s.count) × (s.scan ≡ padded (take s.count s.scan)) };
+}
+
+impl<const ROWS: usize> Instrument<ROWS> {
+    pub fn letter(&self) -> u8
+        ensures { result ≡ self.now.letter }
+    {
+        self.letter
+    }
+
+    // The rows of the sheet.
+    pub fn sheet(&self) -> [[i32; 6]; ROWS]
+        ensures { flat_map (λ row. row) result ≡ sheet_of self.now.table }
+    {
+        self.table.map(
+            |line: [i32; 7]| -> [i32; 6]
+                ensures { result ≡ take 6 line }
+            {
+                let [identifier, access, decimals, step, least, greatest, _] = line;
+                [identifier, access, decimals, step, least, greatest]
+            },
+        )
+    }
+
+    // Each row's initial value, at the place of its identifier.
+    pub fn values(&self) -> [i32; 128]
+        ensures { result ≡ values_of self.now.table }
+    {
+        let mut values = [0; 128];
+        for &[identifier, .., initial] in &self.table {
+            values[identifier as usize] = initial;
+        }
+        values
+    }
+
+    // The count of the scan's identifiers.
+    pub fn count(&self) -> u8
+        ensures { result ≡ length self.now.scan }
+    {
+        self.count
+    }
+
+    // The identifiers of the scan, in order, and 0 behind them.
+    pub fn scan(&self) -> [u8; 5]
+        ensures { result ≡ padded self.now.scan }
+    {
+        self.scan
     }
 }
 
-// The rows of a table, one after the other.
-fn put_rows(table: &[[i32; 7]], sheet: &mut [i32])
-    requires { length sheet.old ≡ length table.now * 6 }
-    ensures { sheet.new ≡ sheet_of table.now }
+pub fn dcp100_controller() -> Instrument<28>
+    ensures { result ≡ controller }
 {
-    let mut i: usize = 0;
-    while i < table.len() {
-        let at = i * 6;
-        put_row(sheet, at, table[i]);
-        i += 1;
+    Instrument {
+        letter: b'L',
+        table: DCP100_CONTROLLER,
+        count: 5,
+        scan: *b"SMWWL",
     }
 }
 
-// Each line's initial value, at the place of its identifier.
-fn put_values(table: &[[i32; 7]], values: &mut [i32])
-    requires { (are_codes table.now ≡ true) × (length values.old ≡ 128) }
-    ensures { values.new ≡ filled values.old table.now }
+// The same where the instrument has one control output.
+pub fn dcp100_one_output() -> Instrument<28>
+    ensures { result ≡ one_output }
 {
-    let mut i: usize = 0;
-    while i < table.len() {
-        let place = table[i][0] as usize;
-        values[place] = table[i][6];
-        i += 1;
+    Instrument {
+        count: 4,
+        scan: *b"SMWL\0",
+        ..dcp100_controller()
     }
 }
 
-// Each table is also a function, so that a check takes its numbers in once and not for each use.
-fn controller() -> [[i32; 7]; 28]
-    ensures { result ≡ dcp100_controller }
+pub fn dcp100_programmer() -> Instrument<22>
+    ensures { result ≡ programmer }
 {
-    DCP100_CONTROLLER
+    Instrument {
+        letter: b'R',
+        table: DCP100_PROGRAMMER,
+        count: 0,
+        scan: [0; 5],
+    }
 }
 
-pub fn dcp100_controller() -> [i32; 168]
-    ensures { result ≡ sheet_of dcp100_controller }
+pub fn udi1500() -> Instrument<19>
+    ensures { result ≡ indicator }
 {
-    let mut sheet = [0; 168];
-    let table = controller();
-    put_rows(&table, &mut sheet);
-    sheet
-}
-
-pub fn dcp100_controller_values() -> [i32; 128]
-    ensures { result ≡ values_of dcp100_controller }
-{
-    let mut values = [0; 128];
-    let table = controller();
-    put_values(&table, &mut values);
-    values
-}
-
-fn programmer() -> [[i32; 7]; 22]
-    ensures { result ≡ dcp100_programmer }
-{
-    DCP100_PROGRAMMER
-}
-
-pub fn dcp100_programmer() -> [i32; 132]
-    ensures { result ≡ sheet_of dcp100_programmer }
-{
-    let mut sheet = [0; 132];
-    let table = programmer();
-    put_rows(&table, &mut sheet);
-    sheet
-}
-
-pub fn dcp100_programmer_values() -> [i32; 128]
-    ensures { result ≡ values_of dcp100_programmer }
-{
-    let mut values = [0; 128];
-    let table = programmer();
-    put_values(&table, &mut values);
-    values
-}
-
-fn indicator() -> [[i32; 7]; 19]
-    ensures { result ≡ udi1500 }
-{
-    UDI1500
-}
-
-pub fn udi1500() -> [i32; 114]
-    ensures { result ≡ sheet_of udi1500 }
-{
-    let mut sheet = [0; 114];
-    let table = indicator();
-    put_rows(&table, &mut sheet);
-    sheet
-}
-
-pub fn udi1500_values() -> [i32; 128]
-    ensures { result ≡ values_of udi1500 }
-{
-    let mut values = [0; 128];
-    let table = indicator();
-    put_values(&table, &mut values);
-    values
-}
-
-// The identifiers of the scan, in order.
-pub fn dcp100_controller_scan() -> [u8; 5]
-    ensures { result ≡ padded dcp100_controller_scan }
-{
-    [b'S', b'M', b'W', b'W', b'L']
-}
-
-// The same where the instrument has one control output; four, and 0 behind them.
-pub fn dcp100_one_output_scan() -> [u8; 5]
-    ensures { result ≡ padded dcp100_one_output_scan }
-{
-    [b'S', b'M', b'W', b'L', 0]
-}
-
-pub fn udi1500_scan() -> [u8; 5]
-    ensures { result ≡ padded udi1500_scan }
-{
-    [b'M', b'A', b'B', b'T', b'L']
+    Instrument {
+        letter: b'L',
+        table: UDI1500,
+        count: 5,
+        scan: *b"MABTL",
+    }
 }

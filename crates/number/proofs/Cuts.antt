@@ -1,20 +1,18 @@
 -- Ranges, multiples and the cut. The cut is a multiple of the step, not above x, and no multiple lies between; each is first a
 -- fact of natural numbers, since n - n % s is n / s times s, and then goes by the sign of x. A step is at least 1 by the
 -- test `le_z (pos 1) step`. Assumes nothing.
-use mathlib.Core.Path.{◌≡◌, refl, sym, ap, ap₂, ◌∙◌, subst}
-use mathlib.Core.Bool.{true, false, cond, ◌&&◌, false≢true}
+use mathlib.Core.Path.{◌≡◌, refl, sym, ap, ◌∙◌, subst}
+use mathlib.Core.Bool.{true, false≢true}
 use Prim.Native.Nat.{ℕ, suc, ◌+◌, ◌-◌, ◌*◌, ◌/◌, ◌%◌, ◌<◌, ◌≤◌}
 use native.Mathlib.Nat.{mod-lt, mul-mod_left, add-mod_right, div-add-mod', div-lt_iff_lt-mul, mul-le-mul_right, suc-mul, le-div_iff_mul-le, le_of_lt, mod-eq-sub-mod, mod-one, zero-mod}
 use native.Mathlib.Omega.{arith}
-use lib.Dec.{eqb, ltb, lit≤}
+use lib.Dec.{eqb, ltb}
 use lib.IntN.{ℤ, pos, negsuc, neg_ℤ, nat_abs, sub_ℕ, ◌+ℤ◌, ◌-ℤ◌, neg_ℤ-+ℤ, neg_ℤ-neg_ℤ}
 use lib.Signed.{lt_z, le_z}
-use mir.Syntax.{w32}
-use mir.Val.{SFits}
 use borrow.Author.Tests.{eqb-true, eq-eqb, ltb-true, ltb-false, lt-ltb, leb-true, le-leb}
 use Rattle.refusal.proofs.Logic.{and_left, and_right, and_both, choice}
-use Rattle.number.specs.Number.{in_range, is_multiple, is_small, cut_down, cut, raised, lowered}
-use Rattle.number.proofs.Signed.{rd, rd-is, small-fits, step_pos, step_is, nat_abs_minus}
+use Rattle.number.specs.Number.{in_range, is_multiple, cut_down, cut, raised, lowered}
+use Rattle.number.proofs.Signed.{step_pos, step_is, nat_abs_minus}
 
 -- ---- a range
 
@@ -221,23 +219,6 @@ down_multiple x (pos s) m =
 down_multiple x (negsuc s) m = absurd (false≢true (multiple_step x (negsuc s) m))
 
 -- ---- numbers of four digits
-
--- one step from x, as the code takes it: `op` is the sum or the difference
-module _ (op : ℤ → ℤ → ℤ) (short : (x y : ℤ) → nat_abs (op x y) ≤ nat_abs x + nat_abs y) {x y : ℤ} (fx : SFits w32 x) (fy : SFits w32 y) where
-  rd_op : op (rd x) (rd y) ≡ op x y
-  rd_op = ap₂ op (rd-is fx) (rd-is fy)
-
-  pub step_fits : (is_small x && is_small y) ≡ true → SFits w32 (op (rd x) (rd y))
-  step_fits e =
-      let a : nat_abs x ≤ 9999 = in-range-within (negsuc 9998) x (pos 9999) (and_left (is_small x) (is_small y) e) (lit≤ tt) (lit≤ tt) in
-      let b : nat_abs y ≤ 9999 = in-range-within (negsuc 9998) y (pos 9999) (and_right (is_small x) (is_small y) e) (lit≤ tt) (lit≤ tt) in
-      subst (SFits w32) (sym rd_op) (small-fits (op x y) (omega (arith, short x y)))
-
-  pub step_taken : (is_small x && is_small y) ≡ true → rd (op (rd x) (rd y)) ≡ cond (is_small x && is_small y) (op x y) x
-  step_taken e = rd-is (step_fits e) ∙ rd_op ∙ sym (rw e)
-
-  pub step_left : (is_small x && is_small y) ≡ false → rd x ≡ cond (is_small x && is_small y) (op x y) x
-  step_left e = rd-is fx ∙ sym (rw e)
 
 pub raised_is : (x y : ℤ) → nat_abs x ≤ 9999 → nat_abs y ≤ 9999 → raised x y ≡ x +ℤ y
 unfolding raised

@@ -93,3 +93,5 @@ four_written m k =
 pub one_of_code_written : (m k : ℕ) → five_digits m (k % 10) ≡ five_digits m k
 unfolding five_digits
 one_of_code_written m k = let e : k % 10 % 10 ≡ k % 10 = omega arith in cc e
+
+pub ruleset written = (code_below, four_written, one_of_code_written)

@@ -3,7 +3,6 @@ pub mod Digits
 pub mod Reading
 pub mod Several
 pub mod Cuts
-pub mod Remainder
 pub mod Cases
 pub mod Products
 pub mod Pairs

@@ -12,6 +12,7 @@ use borrow.Author.Tests.{leb-true, le-leb, lt-leb, ltb-true, ltb-false, lt-ltb, 
 use lib.Dec.{ltb, leb, eqb, lit≤}
 use lib.IntN.{ℤ, pos, negsuc, neg_ℤ, nat_abs}
 use lib.ListN.{length}
+use Rattle.std.specs.List.{fold}
 use Rattle.refusal.proofs.Logic.{ands, and_left, and_right, and_both, choice, by-test}
 use Rattle.number.specs.declared.Data.{Data}
 use Rattle.number.specs.declared.Decimal.{Decimal}
@@ -267,6 +268,12 @@ read_parts : (x : Data) (cs ds : List ℕ) → read_from x (cs ++ ds) ≡ read_f
 unfolding read_from
 read_parts x [] ds = refl
 read_parts x (c ∷ cs) ds = read_parts (read_next x c) cs ds
+
+-- one character after the other, as the library folds a list
+pub folded : (x : Data) (cs : List ℕ) → read_from x cs ≡ fold read_next x cs
+unfolding read_from
+folded x [] = refl
+folded x (c ∷ cs) = folded (read_next x c) cs
 
 pub read_more : (cs ds : List ℕ) → read_data (cs ++ ds) ≡ read_from (read_data cs) ds
 unfolding read_data

@@ -1,14 +1,14 @@
 -- Between the bits of an i32, the whole number that a contract speaks of, and the natural number of its magnitude.
 -- A local of type i32 holds bits, so what the code reads of x is `rd x`, which is x where x fits; sums, differences,
 -- quotients and remainders are brought to their magnitudes, since those are natural numbers. Assumes nothing.
-use mathlib.Core.Path.{◌≡◌, refl, sym, ap, ◌∙◌, subst}
+use mathlib.Core.Path.{◌≡◌, refl, sym, ap, ◌∙◌}
 use mathlib.Core.Bool.{true, false, false≢true}
-use Prim.Native.Nat.{ℕ, zero, suc, ◌+◌, ◌-◌, ◌/◌, ◌%◌, ◌<◌, ◌≤◌, ◌^◌}
-use native.Mathlib.Nat.{div-le_self, mod-le}
+use Prim.Native.Nat.{ℕ, zero, suc, ◌+◌, ◌-◌, ◌%◌, ◌<◌, ◌≤◌, ◌^◌}
+use native.Mathlib.Nat.{mod-le}
 use native.Mathlib.Omega.{arith}
 use lib.Dec.{ltb, eqb, lit<}
-use lib.IntN.{ℤ, pos, negsuc, neg_ℤ, nat_abs, sub_ℕ, ◌+ℤ◌, ◌-ℤ◌, +ℤ_one, +ℤ_idl, neg_ℤ-neg_ℤ}
-use lib.Signed.{mag, lt_z, le_z, quot_z, rem_z}
+use lib.IntN.{ℤ, pos, negsuc, neg_ℤ, nat_abs, sub_ℕ, ◌+ℤ◌, ◌-ℤ◌, +ℤ_idl}
+use lib.Signed.{mag, lt_z, le_z, rem_z}
 use borrow.Author.Tests.{le-ltb, ltb-true, leb-true, ne_eqb}
 use mir.Syntax.{w32}
 use mir.Val.{SFits, to_z, of_z}
@@ -21,6 +21,10 @@ rd z = to_z w32 (of_z w32 z)
 
 pub rd-is : {z : ℤ} → SFits w32 z → rd z ≡ z
 rd-is {z} f = to_z-of_z w32 z f
+
+-- the same with all its arguments: an attribute can name it
+pub same : (z : ℤ) → SFits w32 z → to_z w32 (of_z w32 z) ≡ z
+same z f = rd-is f
 
 -- the same of a call's result, `rd-ok c.CALLEE.result c.CALLEE.ok`, and of an element or a field that was read
 pub rd_ok : (z : ℤ) → mag z < 2 ^ 31 → rd z ≡ z
@@ -37,10 +41,6 @@ fits_pos h = record { sfits = h }
 pub fits_neg : (m : ℕ) → m ≤ 2 ^ 31 → SFits w32 (neg_ℤ (pos m))
 fits_neg zero h = record { sfits = lit< tt }
 fits_neg (suc m) h = record { sfits = h }
-
-pub small-fits : (x : ℤ) → nat_abs x < 2 ^ 31 → SFits w32 x
-small-fits (pos n) h = record { sfits = h }
-small-fits (negsuc n) h = record { sfits = omega arith }
 
 pub nat_abs_fits : (x : ℤ) → SFits w32 x → nat_abs x ≤ 2 ^ 31
 nat_abs_fits (pos n) f = omega (arith, f.sfits)
@@ -71,32 +71,6 @@ nat_abs_minus (negsuc n) = refl
 pub minus_is : (z : ℤ) → pos 0 -ℤ z ≡ neg_ℤ z
 minus_is z = +ℤ_idl (neg_ℤ z)
 
--- ---- the magnitude of a number below zero, as the code reaches it: -(x + 1), and one more
-
-up_neg : (n : ℕ) → negsuc n +ℤ pos 1 ≡ neg_ℤ (pos n)
-up_neg zero = +ℤ_one (negsuc 0)
-up_neg (suc n) = +ℤ_one (negsuc (suc n))
-
-module _ {x : ℤ} (f : SFits w32 x) (e : lt_z x (pos 0) ≡ true) where
-  up_is : rd x +ℤ pos 1 ≡ neg_ℤ (pos (nat_abs x - 1))
-  up_is = ap (λ (z : ℤ). z +ℤ pos 1) (rd-is f ∙ (below_zero x e).1) ∙ up_neg (nat_abs x - 1)
-
-  less : nat_abs x - 1 < 2 ^ 31
-  less = omega (arith, nat_abs_fits x f, (below_zero x e).0)
-
-  pub up_fits : SFits w32 (rd x +ℤ pos 1)
-  up_fits = subst (SFits w32) (sym up_is) (fits_neg (nat_abs x - 1) (omega (arith, less)))
-
-  down_is : pos 0 -ℤ rd (rd x +ℤ pos 1) ≡ pos (nat_abs x - 1)
-  down_is =
-      ap (λ (z : ℤ). pos 0 -ℤ z) (rd-is up_fits ∙ up_is) ∙ minus_is (neg_ℤ (pos (nat_abs x - 1))) ∙ neg_ℤ-neg_ℤ (pos (nat_abs x - 1))
-
-  pub down_fits : SFits w32 (pos 0 -ℤ rd (rd x +ℤ pos 1))
-  down_fits = subst (SFits w32) (sym down_is) (fits_pos less)
-
-  pub rd_down : rd (pos 0 -ℤ rd (rd x +ℤ pos 1)) ≡ pos (nat_abs x - 1)
-  rd_down = rd-is down_fits ∙ down_is
-
 -- ---- sums and differences: the magnitude is at most the sum of the magnitudes
 
 nat_abs_sub : (a b : ℕ) → nat_abs (sub_ℕ a b) ≤ a + b
@@ -121,18 +95,9 @@ pub step_is : (z : ℤ) → le_z (pos 1) z ≡ true → z ≡ pos (nat_abs z)
 step_is (pos n) t = refl
 step_is (negsuc n) t = absurd (false≢true t)
 
--- what the machine asks of `x % step`: the divisor is not 0, and the quotient fits
-pub rem_asks : (x step : ℤ) → SFits w32 x → le_z (pos 1) step ≡ true → (0 < of_z w32 step) × SFits w32 (quot_z x step)
-rem_asks (pos a) (pos b) f t = (leb-true 1 b t, fits_pos (omega (arith, div-le_self a b, f.sfits)))
-rem_asks (negsuc a) (pos b) f t = (leb-true 1 b t, fits_neg (suc a / b) (omega (arith, div-le_self (suc a) b, f.sfits)))
-rem_asks x (negsuc b) f t = absurd (false≢true t)
-
 pub nat_abs_rem : (x step : ℤ) → nat_abs (rem_z x step) ≡ nat_abs x % nat_abs step
 nat_abs_rem (pos a) step = refl
 nat_abs_rem (negsuc a) step = nat_abs_minus (pos (suc a % nat_abs step))
-
-pub rem_small : (x step : ℤ) → nat_abs (rem_z x step) ≤ nat_abs x
-rem_small x step = omega (arith, nat_abs_rem x step, mod-le (nat_abs x) (nat_abs step))
 
 pub rem_fits : (x step : ℤ) → SFits w32 x → SFits w32 (rem_z x step)
 rem_fits (pos a) step f = fits_pos (omega (arith, mod-le a (nat_abs step), f.sfits))

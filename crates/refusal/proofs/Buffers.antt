@@ -8,6 +8,7 @@ use native.Mathlib.Omega.{arith}
 use lib.Dec.{leb}
 use lib.ListN.{length, get_or, take, drop, set, length-append, length-drop, drop_of_length-le, take-append-drop}
 use lib.Seq.{take-append_seam, drop-append_seam, take_at, drop_at, drop-drop, drop-cons, set_split, sets, sets-eq, take-take, length-take-le}
+use borrow.Rule.Slice.PartMut.{put_mid}
 use Rattle.refusal.specs.Buffer.{laid, fits_at, placed}
 
 module _ {A : Type 0} where
@@ -97,6 +98,14 @@ module _ {A : Type 0} where
       ap₂ (λ (l r : List A). (l ++ xs) ++ r) front back
       ∙ sym (append_assoc (take at out ++ xs) ys behind)
       ∙ ap₂ (λ (l : List A) (k : ℕ). l ++ drop k out) (append_assoc (take at out) xs ys) m
+
+  -- what `out[at..at + n].copy_from_slice(xs)` leaves
+  pub copied_placed : (xs : List A) (at k : ℕ) (out ys : List A) → ys ≡ xs → k ≡ length xs → put_mid at k out ys ≡ placed xs at out
+  unfolding placed
+  copied_placed xs at k out ys e n =
+      ap₂ (λ (l : List A) (m : ℕ). take at out ++ (l ++ drop m (drop at out))) e n
+      ∙ sym (append_assoc (take at out) xs (drop (length xs) (drop at out)))
+      ∙ ap (λ (l : List A). (take at out ++ xs) ++ l) (drop-drop (length xs) at out)
 
   -- elements stored one behind the other
   pub placed_sets : (xs out : List A) (from : ℕ) → from + length xs ≤ length out → sets out from xs ≡ placed xs from out

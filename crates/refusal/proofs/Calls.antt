@@ -1,5 +1,5 @@
 -- What a call that writes comes to, by its tests and by whether it fits; and that a number tells which refusal it was. Assumes nothing.
-use mathlib.Core.Path.{◌≡◌, refl, sym, ap, ◌∙◌}
+use mathlib.Core.Path.{◌≡◌, refl, sym, ap, ap₂, ◌∙◌}
 use mathlib.Core.Bool.{true, false, cond}
 use mathlib.Core.List.{List, [], ◌∷◌, ◌++◌}
 use Prim.Native.Nat.{ℕ, ◌+◌, ◌<◌, ◌≤◌}
@@ -12,11 +12,10 @@ use Rattle.refusal.proofs.Checks.{refused_gave, first_holds, first_passes, first
 use Rattle.refusal.specs.Refusal.{Outcome, refused, gave, number_of, outcome_of}
 use Rattle.refusal.specs.Buffer.{laid, fits_at, placed}
 use Rattle.refusal.specs.Check.{Check, first, decided}
-use Rattle.refusal.specs.Call.{Call, refuses, room_for, writes, place_call}
+use Rattle.refusal.specs.Call.{Call, call_of, refuses, room_for, writes, place_call}
 use Rattle.refusal.specs.declared.Refusal.{Refusal}
 use Rattle.refusal.specs.declared.Refusal.TheVariants.{UnsoundCard, UnsoundSheet, UnsoundValues, WordAbove256, RoomTooShort, NotReply, NotMessage, UnsoundBus}
-use Rattle.refusal.specs.declared.Written.{Written}
-use Rattle.refusal.specs.declared.Written.TheVariants.{Refused, Wrote}
+use Rattle.std.specs.Prelude.{Err, Ok, Result}
 
 -- ---- a list at the front of a buffer
 
@@ -113,6 +112,14 @@ pub fits_not : (xs : List ℕ) (at : ℕ) (out : List ℕ) → length out < at +
 unfolding fits_at
 fits_not xs at out h = lt-leb (at + length xs) (length out) h
 
+-- the answer of a function that places
+pub place_refuses : (xs : List ℕ) (at : ℕ) (out : List ℕ) → length out < at + length xs → call_of (Err RoomTooShort) out ≡ place_call xs at out
+place_refuses xs at out h = sym (unplaced_call xs at out (fits_not xs at out h))
+
+pub place_gives : (xs : List ℕ) (at : ℕ) (out left : List ℕ) (n : ℕ) → at + length xs ≤ length out → n ≡ length xs → left ≡ placed xs at out
+    → call_of (Ok n) left ≡ place_call xs at out
+place_gives xs at out left n h e l = ap₂ (λ (k : ℕ) (b : List ℕ). call_of (Ok k) b) e l ∙ sym (placed_call xs at out (fits-at xs at out h))
+
 -- what a call that had room has left
 pub placed_is : (xs : List ℕ) (at : ℕ) (out : List ℕ) {c : Call} → at + length xs ≤ length out → c ≡ place_call xs at out → c.buffer ≡ placed xs at out
 placed_is xs at out h e = ap (λ (x : Call). x.buffer) (e ∙ placed_call xs at out (fits-at xs at out h))
@@ -189,14 +196,14 @@ number_small r = leb-true (number_of r) 16 (all r)
     all NotMessage = refl
     all UnsoundBus = refl
 
-answer : Outcome ℕ → Written
-answer (refused n) = Refused (named n)
-answer (gave n) = Wrote n
+answer : Outcome ℕ → Result ℕ Refusal
+answer (refused n) = Err (named n)
+answer (gave n) = Ok n
 
-answer_outcome : (w : Written) → answer (outcome_of w) ≡ w
+answer_outcome : (w : Result ℕ Refusal) → answer (outcome_of w) ≡ w
 unfolding answer
-answer_outcome (Refused r) = ap Refused (named_number r)
-answer_outcome (Wrote n) = refl
+answer_outcome (Err r) = ap Err (named_number r)
+answer_outcome (Ok n) = refl
 
-pub outcome_injective : (v w : Written) → outcome_of v ≡ outcome_of w → v ≡ w
+pub outcome_injective : (v w : Result ℕ Refusal) → outcome_of v ≡ outcome_of w → v ≡ w
 outcome_injective v w e = sym (answer_outcome v) ∙ ap answer e ∙ answer_outcome w

@@ -7,6 +7,8 @@ use native.Mathlib.Numerals.{add-one}
 use native.Mathlib.Omega.{arith}
 use lib.ListN.{length, get_or, take, drop, set, replicate, drop_of_length-le}
 use lib.Seq.{drop-cons}
+use Rattle.std.specs.List.{list_all}
+use Rattle.std.specs.Cmp.Lexicographic.{pointwise}
 use Rattle.refusal.specs.Lists.{every, same}
 use Rattle.refusal.proofs.Logic.{and_left, and_right, and_both}
 
@@ -14,6 +16,22 @@ use Rattle.refusal.proofs.Logic.{and_left, and_right, and_both}
 pub append_cancel : {A : Type 0} (us : List A) {xs ys : List A} → us ++ xs ≡ us ++ ys → xs ≡ ys
 append_cancel [] e = e
 append_cancel (u ∷ us) e = append_cancel us (tail-eq_of_cons-eq e)
+
+-- ---- the library's words for both
+
+-- what `.iter().all(..)` answers
+pub every_all : {A : Type 0} (f : A → Bool) (xs : List A) → every f xs ≡ list_all f xs
+unfolding every
+every_all f [] = refl
+every_all f (x ∷ xs) = ap (λ (b : Bool). f x && b) (every_all f xs)
+
+-- what `==` of two slices answers
+pub same_pointwise : {A : Type 0} (eq : A → A → Bool) (xs ys : List A) → same eq xs ys ≡ pointwise eq xs ys
+unfolding same
+same_pointwise eq [] [] = refl
+same_pointwise eq [] (y ∷ ys) = refl
+same_pointwise eq (x ∷ xs) [] = refl
+same_pointwise eq (x ∷ xs) (y ∷ ys) = ap (λ (b : Bool). eq x y && b) (same_pointwise eq xs ys)
 
 -- ---- a statement of each
 

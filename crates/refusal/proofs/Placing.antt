@@ -10,14 +10,13 @@ use Rattle.refusal.specs.Refusal.{Outcome, gave, outcome_of}
 use Rattle.refusal.specs.Buffer.{fits_at}
 use Rattle.refusal.specs.Call.{Call, call_of, writes, place_call}
 use Rattle.refusal.specs.declared.Refusal.{Refusal}
-use Rattle.refusal.specs.declared.Written.{Written}
-use Rattle.refusal.specs.declared.Written.TheVariants.{Refused, Wrote}
 use Rattle.refusal.proofs.Logic.{by-test}
 use Rattle.refusal.proofs.Checks.{refused_gave}
 use Rattle.refusal.proofs.Calls.{gave_served, placed_call, unplaced_call, fits-at, fits_not}
+use Rattle.std.specs.Prelude.{Err, Ok, Result}
 
 -- so many were written by a call: they lie in its buffer
-pub wrote_within : (xs out : List ℕ) (r : Written) (n : ℕ) {left : List ℕ} → call_of r left ≡ writes [] xs out → r ≡ Wrote n → n ≤ length out
+pub wrote_within : (xs out : List ℕ) (r : Result ℕ Refusal) (n : ℕ) {left : List ℕ} → call_of r left ≡ writes [] xs out → r ≡ Ok n → n ≤ length out
 wrote_within xs out r n e w =
     let s = gave_served xs out [] n (sym (ap (λ (c : Call). c.outcome) e) ∙ ap outcome_of w) in
     rw s.count s.room
@@ -36,21 +35,21 @@ module _ (xs : List ℕ) (at : ℕ) (out : List ℕ) where
       (λ t. leb-false _ _ t)
 
   -- the answer r of a call that placed xs
-  module _ (r : Written) (left : List ℕ) (e : call_of r left ≡ place_call xs at out) where
+  module _ (r : Result ℕ Refusal) (left : List ℕ) (e : call_of r left ≡ place_call xs at out) where
     abbrev answered : Call → Outcome ℕ
     answered c = c.outcome
 
-    pub wrote_fits : (n : ℕ) → r ≡ Wrote n → fits_at xs at out ≡ true
+    pub wrote_fits : (n : ℕ) → r ≡ Ok n → fits_at xs at out ≡ true
     wrote_fits n w =
         by-test (fits_at xs at out) (λ t. t)
         (λ t. absurd (refused_gave (sym (ap answered (e ∙ unplaced_call xs at out t)) ∙ ap outcome_of w)))
 
-    pub wrote_count : (n : ℕ) → r ≡ Wrote n → n ≡ length xs
+    pub wrote_count : (n : ℕ) → r ≡ Ok n → n ≡ length xs
     wrote_count n w =
         let g : gave n ≡ gave (length xs) = sym (ap outcome_of w) ∙ ap answered (e ∙ placed_call xs at out (wrote_fits n w)) in
         cc
 
-    pub refused_unfit : (k : Refusal) → r ≡ Refused k → fits_at xs at out ≡ false
+    pub refused_unfit : (k : Refusal) → r ≡ Err k → fits_at xs at out ≡ false
     refused_unfit k w =
         by-test (fits_at xs at out)
         (λ t. absurd (refused_gave (sym (ap outcome_of w) ∙ ap answered (e ∙ placed_call xs at out t))))

@@ -3,8 +3,9 @@ use Rattle.std.specs.Prelude.{cond, List, [], ◌∷◌, ◌++◌, ℕ, ltb, len
 use Rattle.refusal.specs.Refusal.{Outcome, refused, gave, number_of, outcome_of}
 use Rattle.refusal.specs.Buffer.{laid, fits_at, placed}
 use Rattle.refusal.specs.Check.{Check, refuse_if, first, decided}
-use Rattle.refusal.specs.declared.Written.{Written}
 use Rattle.refusal.specs.declared.Refusal.TheVariants.{RoomTooShort}
+use Rattle.std.specs.Prelude.{Result}
+use Rattle.refusal.specs.declared.Refusal.{Refusal}
 
 -- the outcome, and the whole buffer afterwards
 pub record Call : Type 0 where
@@ -12,7 +13,7 @@ pub record Call : Type 0 where
   pub buffer : List ℕ
 
 -- an answer and a buffer, as a call has left them
-abbrev pub call_of : Written → List ℕ → Call
+abbrev pub call_of : Result ℕ Refusal → List ℕ → Call
 call_of r out = record { outcome = outcome_of r; buffer = out }
 
 -- document 01: "No refusal changes anything lent."

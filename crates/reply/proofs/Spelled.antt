@@ -12,8 +12,6 @@ use Rattle.refusal.specs.Buffer.{placed}
 use Rattle.refusal.specs.Refusal.{gave, outcome_of}
 use Rattle.refusal.specs.Call.{Call, call_of, place_call}
 use Rattle.refusal.specs.declared.Refusal.{Refusal}
-use Rattle.refusal.specs.declared.Written.{Written}
-use Rattle.refusal.specs.declared.Written.TheVariants.{Wrote, Refused}
 use Rattle.refusal.proofs.Buffers.{placed_nothing, placed_both, placed_length, placed-front, laid_front, placed_ahead}
 use Rattle.refusal.proofs.Lists.{each_append}
 use Rattle.refusal.proofs.Checks.{refused_gave}
@@ -35,6 +33,7 @@ use Rattle.reply.specs.declared.Content.TheVariants.{Empty, Number, Four, Five}
 use Rattle.reply.specs.declared.Answer.{Answer}
 use Rattle.reply.specs.Reply.{longest_reply, mark_of, spell_scan, spell_content, spell_answer}
 use Rattle.reply.specs.Inner.{spell_front}
+use Rattle.std.specs.Prelude.{Err, Ok, Result}
 
 -- ---- lengths
 
@@ -198,12 +197,12 @@ stands-at {xs} {next = next} {out = out} {out' = out'} e s = subst (λ (k : ℕ)
 
 -- ---- into an array that has room for every reply
 
-pub record Spelt (a : Answer) (r : Written) (array : List ℕ) : Type 0 where
+pub record Spelt (a : Answer) (r : Result ℕ Refusal) (array : List ℕ) : Type 0 where
   pub answers : outcome_of r ≡ gave (length (travelling (spell_answer a)))
   pub long : length array ≡ longest_reply
   pub front : take (length (travelling (spell_answer a))) array ≡ travelling (spell_answer a)
 
-pub spelt : (a : Answer) (zeros : List ℕ) (r : Written) (array : List ℕ) → length zeros ≡ longest_reply → call_of r array ≡ place_call (travelling (spell_answer a)) 0 zeros → Spelt a r array
+pub spelt : (a : Answer) (zeros : List ℕ) (r : Result ℕ Refusal) (array : List ℕ) → length zeros ≡ longest_reply → call_of r array ≡ place_call (travelling (spell_answer a)) 0 zeros → Spelt a r array
 spelt a zeros r array h e =
     let xs = travelling (spell_answer a) in
     let n = travelling_length (spell_answer a) in
@@ -218,8 +217,8 @@ spelt a zeros r array h e =
     }
 
 -- so many bytes were written
-pub spelt_count : (a : Answer) (r : Written) (array : List ℕ) (n : ℕ) → Spelt a r array → r ≡ Wrote n → n ≡ length (travelling (spell_answer a))
+pub spelt_count : (a : Answer) (r : Result ℕ Refusal) (array : List ℕ) (n : ℕ) → Spelt a r array → r ≡ Ok n → n ≡ length (travelling (spell_answer a))
 spelt_count a r array n s e = let g : gave n ≡ gave (length (travelling (spell_answer a))) = sym (ap outcome_of e) ∙ s.answers in cc
 
-pub spelt_always : (a : Answer) (r : Written) (array : List ℕ) (f : Refusal) → Spelt a r array → r ≡ Refused f → ⊥
+pub spelt_always : (a : Answer) (r : Result ℕ Refusal) (array : List ℕ) (f : Refusal) → Spelt a r array → r ≡ Err f → ⊥
 spelt_always a r array f s e = refused_gave (sym (ap outcome_of e) ∙ s.answers)

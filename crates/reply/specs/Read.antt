@@ -17,9 +17,9 @@ use Rattle.reply.specs.declared.Mark.TheVariants as mark
 use Rattle.reply.specs.declared.Content.{Content}
 use Rattle.reply.specs.declared.Content.TheVariants.{Empty, Number, Four, Five}
 use Rattle.reply.specs.declared.Answer.{Answer}
-use Rattle.reply.specs.declared.Reading.{Reading}
-use Rattle.reply.specs.declared.Reading.TheVariants.{Refused, Gave}
 use Rattle.reply.specs.Reply.{spell_answer, is_answer}
+use Rattle.std.specs.Prelude.{Err, Ok, Result}
+use Rattle.refusal.specs.declared.Refusal.{Refusal}
 
 -- the seven bits of each byte
 unfoldable pub characters_of : List ℕ → List ℕ
@@ -70,8 +70,3 @@ is_reply bs = is_answer (guess (characters_of bs)) && same eqb (travelling (spel
 -- document 01, number 6: bytes that "are not one whole reply spelled exactly as some sound card .. would spell it, parity included"
 unfoldable pub read_call : List ℕ → Outcome Answer
 read_call bs = decided (first (refuse_if (not (is_reply bs)) NotReply ∷ [])) refused (gave (guess (characters_of bs)))
-
--- the reader's answer: number 6, or the answer that the card gave
-abbrev pub outcome_of : Reading → Outcome Answer
-outcome_of (Refused r) = refused (number_of r)
-outcome_of (Gave a) = gave a

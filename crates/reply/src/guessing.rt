@@ -13,35 +13,32 @@ fn character_at(bytes: &[u8], k: usize) -> u8
     if k < bytes.len() { bytes[k] % 128 } else { 0 }
 }
 
+#[tactic(auto, unfolding(number::specs::Data::digit_of))]
 fn digit_of(c: u8) -> u8
     ensures { result ≡ digit_of c }
 {
-    if c < 48 { 0 } else { c - 48 }
+    c.saturating_sub(48)
 }
 
+#[tactic(auto, unfolding(crate::specs::Read::guess_mark))]
 fn guess_mark(c: u8) -> Mark
     ensures { result ≡ guess_mark c }
 {
-    if c == b'A' {
-        return Mark::Accepted;
+    match c {
+        b'A' => Mark::Accepted,
+        b'I' => Mark::Offered,
+        _ => Mark::Declined,
     }
-    if c == b'I' {
-        return Mark::Offered;
-    }
-    Mark::Declined
 }
 
 // A number as it was read.
+#[tactic(auto, unfolding(crate::specs::Read::read_or_zero))]
 fn read_or_zero(read: Data) -> Decimal
     ensures { result ≡ read_or_zero read }
 {
     match read {
-        Data::Partial { count: _, value: _ } => Decimal {
-            number: 0,
-            decimals: 0,
-        },
-        Data::Number(x) => number::as_decimal(x),
-        Data::Invalid => Decimal {
+        Data::Number(x) => x.into(),
+        Data::Partial { .. } | Data::Invalid => Decimal {
             number: 0,
             decimals: 0,
         },

@@ -1,6 +1,7 @@
 // A reply: the answer it carries, its spelling, and the reader.
 #![tactic(auto)]
 
+ghost use Rattle.refusal.specs.Refusal.{outcome_of};
 ghost use Rattle.std.specs.Prelude.{◌≡◌, [], ◌∷◌, ◌+◌, ◌≤◌, eqb, length};
 ghost use Rattle.refusal.specs.Lists.{every, same};
 ghost use Rattle.refusal.specs.Buffer.{placed};
@@ -9,10 +10,10 @@ ghost use Rattle.wire.specs.Word.{travelling};
 ghost use Rattle.number.specs.Data.{fits, spell_data, spell_all};
 ghost use Rattle.reply.specs.Reply.{mark_of, spell_content, spell_answer, is_no_number, fits_content, is_answer};
 ghost use Rattle.reply.specs.Inner.{spell_front};
-ghost use Rattle.reply.specs.Read.{read_call, outcome_of};
+ghost use Rattle.reply.specs.Read.{read_call};
 
 use number::Decimal;
-use refusal::{Refusal, Written};
+use refusal::Refusal;
 
 mod guessing;
 
@@ -23,7 +24,7 @@ pub const LONGEST_REPLY: usize = 33;
 pub const SCAN: u8 = b']';
 
 // `A`, `I` and `N`.
-#[derive(Clone, Copy)]
+#[derive(Clone, Copy, Debug, PartialEq, Eq)]
 pub enum Mark {
     Accepted,
     Offered,
@@ -31,7 +32,7 @@ pub enum Mark {
 }
 
 // The numbers with their decimals, if any: one, or the four or five of a scan.
-#[derive(Clone, Copy)]
+#[derive(Clone, Copy, Debug, PartialEq, Eq)]
 pub enum Content {
     Empty,
     Number(Decimal),
@@ -39,20 +40,13 @@ pub enum Content {
     Five(Decimal, Decimal, Decimal, Decimal, Decimal),
 }
 
-#[derive(Clone, Copy)]
+#[derive(Clone, Copy, Debug, PartialEq, Eq)]
 pub struct Answer {
     pub letter: u8,
     pub address: u8,
     pub identifier: u8,
     pub mark: Mark,
     pub content: Content,
-}
-
-// What the reader answers.
-#[derive(Clone, Copy)]
-pub enum Reading {
-    Refused(Refusal),
-    Gave(Answer),
 }
 
 // The character of a mark.
@@ -76,17 +70,17 @@ fn place_front(letter: u8, address: u8, identifier: u8, out: &mut [u8], at: usiz
     if address <= 9 {
         let d = wire::with_parity(48 + address);
         let bytes = [l, d, i];
-        wire::place(&bytes, out, at);
+        let _ = wire::place(&bytes, out, at);
         return at + 3;
     }
     let t = wire::with_parity(48 + address / 10);
     let u = wire::with_parity(48 + address % 10);
     let bytes = [l, t, u, i];
-    wire::place(&bytes, out, at);
+    let _ = wire::place(&bytes, out, at);
     at + 4
 }
 
-// Five digits in the same way.
+// Five digits in the same way. They are stored one by one: that a copy of all five leaves the same was tried, and its proof did not close.
 fn place_number(x: Decimal, out: &mut [u8], at: usize) -> usize
     requires { at + 5 ≤ length out.old }
     ensures { (result ≡ at + 5) × (out.new ≡ placed (travelling (spell_data x)) at out.old) }
@@ -163,8 +157,7 @@ fn content_len(content: Content) -> usize
 fn spelled_len(answer: Answer) -> usize
     ensures { result ≡ length (spell_answer answer) }
 {
-    let content = answer.content;
-    let data = content_len(content);
+    let data = content_len(answer.content);
     if answer.address <= 9 {
         5 + data
     } else {
@@ -173,15 +166,15 @@ fn spelled_len(answer: Answer) -> usize
 }
 
 // The reply into a buffer from a place on, as it travels.
-pub fn place(answer: Answer, out: &mut [u8], at: usize) -> Written
+pub fn place(answer: Answer, out: &mut [u8], at: usize) -> Result<usize, Refusal>
     ensures { call_of result out.new ≡ place_call (travelling (spell_answer answer)) at out.old }
 {
     let n = spelled_len(answer);
     if out.len() < at {
-        return Written::Refused(Refusal::RoomTooShort);
+        return Err(Refusal::RoomTooShort);
     }
     if out.len() - at < n {
-        return Written::Refused(Refusal::RoomTooShort);
+        return Err(Refusal::RoomTooShort);
     }
     let given = answer.mark;
     let content = answer.content;
@@ -189,14 +182,15 @@ pub fn place(answer: Answer, out: &mut [u8], at: usize) -> Written
     let data = place_front(answer.letter, answer.address, answer.identifier, out, at);
     place_two(mark_of(given), b'*', out, at + n - 2);
     place_content(content, out, data);
-    Written::Wrote(n)
+    Ok(n)
 }
 
 // `00000`.
+#[tactic(auto, unfolding(crate::specs::Reply::is_no_number))]
 fn is_no_number(x: Decimal) -> bool
     ensures { result ≡ is_no_number x }
 {
-    (number::magnitude(x.number) == 0) & (x.decimals == 0)
+    x.number == 0 && x.decimals == 0
 }
 
 fn fits_four(a: Decimal, b: Decimal, c: Decimal, d: Decimal) -> bool
@@ -224,33 +218,22 @@ fn fits_content(identifier: u8, mark: Mark, content: Content) -> bool
 }
 
 // Whether some card gives it.
+#[tactic(auto, unfolding(crate::specs::Reply::is_answer))]
 pub fn is_answer(answer: Answer) -> bool
     ensures { result ≡ is_answer answer }
 {
-    let identifier = answer.identifier;
-    let mark = answer.mark;
-    let content = answer.content;
     message::is_letter(answer.letter)
-        & message::is_address(answer.address)
-        & message::is_identifier(identifier)
-        & fits_content(identifier, mark, content)
+        && message::is_address(answer.address)
+        && message::is_identifier(answer.identifier)
+        && fits_content(answer.identifier, answer.mark, answer.content)
 }
 
 // The same bytes.
+#[tactic(auto, using(refusal::proofs::Lists::same_pointwise))]
 pub fn equal(a: &[u8], b: &[u8]) -> bool
     ensures { result ≡ same eqb a.now b.now }
 {
-    if a.len() != b.len() {
-        return false;
-    }
-    let mut i = 0;
-    while i < a.len() {
-        if a[i] != b[i] {
-            return false;
-        }
-        i += 1;
-    }
-    true
+    a == b
 }
 
 // Whether the bytes are the reply of an answer: it is spelled and compared.
@@ -259,20 +242,20 @@ fn is_spelling(answer: Answer, bytes: &[u8]) -> bool
 {
     let mut spelled = [0u8; LONGEST_REPLY];
     match place(answer, &mut spelled, 0) {
-        Written::Wrote(n) => equal(&spelled[..n], bytes),
-        Written::Refused(_) => false,
+        Ok(n) => equal(&spelled[..n], bytes),
+        Err(_) => false,
     }
 }
 
 // The answer that the card gave.
 #[tactic(auto, using(crate::proofs::Reader::read_reply, crate::proofs::Reader::read_no_reply, crate::proofs::Reader::reply_is))]
-pub fn read(bytes: &[u8]) -> Reading
+pub fn read(bytes: &[u8]) -> Result<Answer, Refusal>
     ensures { outcome_of result ≡ read_call bytes.now }
 {
     let answer = guessing::guess(bytes);
     if is_answer(answer) & is_spelling(answer, bytes) {
-        Reading::Gave(answer)
+        Ok(answer)
     } else {
-        Reading::Refused(Refusal::NotReply)
+        Err(Refusal::NotReply)
     }
 }

@@ -21,11 +21,11 @@ use Rattle.hearing.specs.Hearing.{open_of}
 use Rattle.hearing.specs.Sound.{sound_pending}
 use Rattle.hearing.proofs.Sound.{pending_parts, place_small}
 use Rattle.act.specs.declared.Setup.{Setup}
-use Rattle.act.specs.declared.Offer.{Offer}
-use Rattle.act.specs.declared.Offer.TheVariants.{Nothing, Held}
 use Rattle.card.specs.declared.Card.{Card}
 use Rattle.row.specs.Row.{is_byte, is_row, byte_or, byte_of, bytes_in, offer_of, setup_of, pending_of, card_of, pending_row, offer_row, changing, stored_in}
 use Rattle.row.proofs.Laws.{bytes_length, setup_same, pending_length, offer_length, stored_length, changing_length, stored_placed, stored_parts}
+use Rattle.std.specs.Prelude.{None, Option, Some}
+use Rattle.act.specs.declared.Offer.{Offer}
 
 pub is-byte : (n : ℕ) → n < 256 → is_byte (pos n) ≡ true
 unfolding is_byte in_range
@@ -63,14 +63,14 @@ pending_back p a b rest l =
     ap₂ (λ (x : List ℕ) (k : ℕ). record { chars = x; len = k }) cs m
 
 -- the identifier of an offer; 0 where there is none
-abbrev pub identifier_of : Offer → ℕ
-identifier_of Nothing = 0
-identifier_of (Held i z) = i
+abbrev pub identifier_of : Option Offer → ℕ
+identifier_of None = 0
+identifier_of (Some o) = o.identifier
 
-offer_back : (o : Offer) (rest : List ℤ) → identifier_of o < 256 → offer_of (at (offer_row o ++ rest) 0) (at (offer_row o ++ rest) 1) (at (offer_row o ++ rest) 2) ≡ o
+offer_back : (o : Option Offer) (rest : List ℤ) → identifier_of o < 256 → offer_of (at (offer_row o ++ rest) 0) (at (offer_row o ++ rest) 1) (at (offer_row o ++ rest) 2) ≡ o
 unfolding offer_of offer_row in_range
-offer_back Nothing rest h = refl
-offer_back (Held i z) rest h = rw (is-byte i h, byte_back i h)
+offer_back None rest h = refl
+offer_back (Some o) rest h = rw (is-byte o.identifier h, byte_back o.identifier h)
 
 -- ---- the whole card
 
@@ -101,7 +101,7 @@ module _ (c : Card) (l : Lent c.pending) (small : identifier_of c.offer < 256) w
     card-of e =
         let o : offer_of (at x 13) (at x 14) (at x 15) ≡ c.offer =
         ap₂ (λ (m i : ℤ). offer_of m i (at x 15)) (behind 0) (behind 1) ∙ ap (offer_of (at q 0) (at q 1)) (behind 2) ∙ offer_back c.offer rest small in
-        ap₂ (λ (p : Pending) (y : Offer). record { setup = setup_of x; pending = p; offer = y }) (pending_back c.pending a b q l) o
+        ap₂ (λ (p : Pending) (y : Option Offer). record { setup = setup_of x; pending = p; offer = y }) (pending_back c.pending a b q l) o
         ∙ ap (λ (s : Setup). record { setup = s; pending = c.pending; offer = c.offer }) (sym e)
 
   pub card_back : (row : List ℤ) → 16 ≤ length row → c.setup ≡ setup_of row → card_of (stored_in c row) ≡ c

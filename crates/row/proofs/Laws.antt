@@ -9,16 +9,17 @@ use lib.Dec.{leb}
 use lib.IntN.{ℤ, pos}
 use lib.ListN.{length, get_or, drop, set, length-append, length-map, drop_of_length-le}
 use lib.Seq.{get_or-drop, drop-drop}
+use Rattle.std.proofs.lemmas.List.{same_lists, get_or_default}
 use Rattle.refusal.specs.Buffer.{laid, fits_at, placed}
 use Rattle.refusal.proofs.Logic.{by-test}
 use Rattle.refusal.proofs.Buffers.{placed-front, placed_length, placed_one, placed_both}
 use Rattle.sheet.specs.Sheet.{at}
 use Rattle.hearing.specs.declared.Pending.{Pending}
 use Rattle.hearing.specs.Hearing.{open_of}
-use Rattle.act.specs.declared.Offer.{Offer}
 use Rattle.card.specs.declared.Card.{Card}
-use Rattle.act.specs.declared.Offer.TheVariants.{Nothing, Held}
 use Rattle.row.specs.Row.{is_byte, byte_of, bytes_in, setup_of, is_exactly, offer_of, pending_row, offer_row, changing, stored_in}
+use Rattle.std.specs.Prelude.{None, Option, Some}
+use Rattle.act.specs.declared.Offer.{Offer}
 
 -- ---- bytes read from a row
 
@@ -37,6 +38,12 @@ bytes_at (suc n) (suc k) zs h = bytes_at n k (drop 1 zs) (omega arith) ∙ ap by
 pub byte_read : (row : List ℤ) (from n k : ℕ) → k < n → get_or (bytes_in n (drop from row)) k 0 ≡ byte_of (at row (from + k))
 byte_read row from n k h = bytes_at n k (drop from row) h ∙ ap byte_of (get_or-drop from row k (pos 0))
 
+-- an array of n that holds them
+pub bytes_made : (row : List ℤ) (from n : ℕ) (ys : List ℕ) → length ys ≡ n → ((k : ℕ) → k < n → get_or ys k 0 ≡ byte_of (at row (from + k))) → ys ≡ bytes_in n (drop from row)
+bytes_made row from n ys e h =
+    let m = bytes_length n (drop from row) in
+    same_lists ys (bytes_in n (drop from row)) (e ∙ sym m) (λ k d l. get_or_default ys k d 0 l ∙ h k (omega arith) ∙ sym (byte_read row from n k (omega arith)) ∙ sym (get_or_default (bytes_in n (drop from row)) k d 0 (omega arith)))
+
 -- five numbers from a place on
 bytes_next : (row : List ℤ) (n k : ℕ) → bytes_in (suc n) (drop k row) ≡ byte_of (at row k) ∷ bytes_in n (drop (suc k) row)
 unfolding bytes_in
@@ -49,37 +56,11 @@ pub scan_bytes : (row : List ℤ) → bytes_in 5 (drop 17 row) ≡ byte_of (at r
 unfolding bytes_in
 scan_bytes row = rw (bytes_next row 4 17, bytes_next row 3 18, bytes_next row 2 19, bytes_next row 1 20, bytes_next row 0 21)
 
--- a list over the whole of a buffer
-pub placed_whole : (xs out : List ℕ) → length out ≤ length xs → placed xs 0 out ≡ xs
-unfolding laid
-placed_whole xs out h = placed-front xs out ∙ ap (λ (l : List ℕ). xs ++ l) (drop_of_length-le out h) ∙ append-nil xs
-
 -- the setup by the numbers at its places
 pub setup_same : (row row' : List ℤ) → at row 0 ≡ at row' 0 → at row 1 ≡ at row' 1 → ((k : ℕ) → at row (16 + k) ≡ at row' (16 + k)) → setup_of row ≡ setup_of row'
 unfolding setup_of
 setup_same row row' l a h =
     simp (l, a, h 0, scan_bytes row, scan_bytes row', h 1, h 2, h 3, h 4, h 5, h 6)
-
--- ---- an offer by its three numbers
-
-module _ (m i z : ℤ) where
-  abbrev pub is_none : Bool
-  is_none = is_exactly 0 m && is_exactly 0 i && is_exactly 0 z
-
-  abbrev pub is_marked : Bool
-  is_marked = is_exactly 1 m && is_byte i
-
-  pub offer_none : is_none ≡ true → offer_of m i z ≡ Nothing
-  unfolding offer_of
-  offer_none e = rw e
-
-  pub offer_marked : is_none ≡ false → is_marked ≡ true → offer_of m i z ≡ Held (byte_of i) z
-  unfolding offer_of
-  offer_marked e f = rw (e, f)
-
-  pub offer_other : is_none ≡ false → is_marked ≡ false → offer_of m i z ≡ Held 0 (pos 0)
-  unfolding offer_of
-  offer_other e f = rw (e, f)
 
 -- ---- a card stored back
 
@@ -87,10 +68,10 @@ pub pending_length : (p : Pending) → length (pending_row p) ≡ suc (length p.
 unfolding pending_row
 pending_length p = ap suc (length-map p.chars pos)
 
-pub offer_length : (o : Offer) → length (offer_row o) ≡ 3
+pub offer_length : (o : Option Offer) → length (offer_row o) ≡ 3
 unfolding offer_row
-offer_length Nothing = refl
-offer_length (Held i z) = refl
+offer_length None = refl
+offer_length (Some o) = refl
 
 -- the count, and the characters behind it
 pub pending_placed : (p : Pending) (row : List ℤ) → 13 ≤ length row → placed (map pos p.chars) 3 (set row 2 (pos (length (open_of p)))) ≡ placed (pending_row p) 2 row

@@ -1,7 +1,7 @@
 -- A card as a row of twenty-three numbers: 0 letter, 1 address, 2 count of open characters, 3 to 12 the characters (0 behind), 13 mark of
 -- an offer (1, or 0 for none), 14 its identifier, 15 its value, 16 count of the scan's identifiers, 17 to 21 the identifiers, 22
 -- revision.
-use Rattle.std.specs.Prelude.{Bool, cond, ◌&&◌, List, [], ◌∷◌, ◌++◌, map, ℕ, zero, suc, eqb, ℤ, pos, nat_abs, length, take, drop}
+use Rattle.std.specs.Prelude.{Bool, cond, ◌&&◌, List, [], ◌∷◌, ◌++◌, map, ℕ, zero, suc, eqb, ℤ, pos, nat_abs, length, take, drop, Some}
 use Rattle.refusal.specs.Lists.{every}
 use Rattle.refusal.specs.Buffer.{fits_at, placed}
 use Rattle.number.specs.Number.{in_range}
@@ -10,9 +10,10 @@ use Rattle.hearing.specs.declared.Pending.{Pending}
 use Rattle.hearing.specs.Hearing.{most, open_of}
 use Rattle.act.specs.declared.Setup.{Setup}
 use Rattle.act.specs.Act.{most_named}
-use Rattle.act.specs.declared.Offer.{Offer}
-use Rattle.act.specs.declared.Offer.TheVariants.{Nothing, Held}
 use Rattle.card.specs.declared.Card.{Card}
+use Rattle.std.specs.Prelude.{None, Option}
+use Rattle.act.specs.Act.{held}
+use Rattle.act.specs.declared.Offer.{Offer}
 
 -- ---- from numbers to a card
 
@@ -52,9 +53,9 @@ is_exactly n z = in_range (pos n) z (pos n)
 
 -- a mark, an identifier and a value: 0, 0, 0 is no offer, and 1 with a byte for identifier is that offer. Anything else is an offer for
 -- identifier 0, which no sound sheets have, so that it is number 1 in its second place.
-unfoldable pub offer_of : ℤ → ℤ → ℤ → Offer
+unfoldable pub offer_of : ℤ → ℤ → ℤ → Option Offer
 offer_of m i z =
-    cond (is_exactly 0 m && is_exactly 0 i && is_exactly 0 z) Nothing (cond (is_exactly 1 m && is_byte i) (Held (byte_of i) z) (Held 0 (pos 0)))
+    cond (is_exactly 0 m && is_exactly 0 i && is_exactly 0 z) None (cond (is_exactly 1 m && is_byte i) (held (byte_of i) z) (held 0 (pos 0)))
 
 unfoldable pub card_of : List ℤ → Card
 card_of row = record { setup = setup_of row; pending = pending_of row; offer = offer_of (at row 13) (at row 14) (at row 15) }
@@ -64,9 +65,9 @@ card_of row = record { setup = setup_of row; pending = pending_of row; offer = o
 unfoldable pub pending_row : Pending → List ℤ
 pending_row p = pos (length (open_of p)) ∷ map pos p.chars
 
-unfoldable pub offer_row : Offer → List ℤ
-offer_row Nothing = pos 0 ∷ pos 0 ∷ pos 0 ∷ []
-offer_row (Held i z) = pos 1 ∷ pos i ∷ z ∷ []
+unfoldable pub offer_row : Option Offer → List ℤ
+offer_row None = pos 0 ∷ pos 0 ∷ pos 0 ∷ []
+offer_row (Some o) = pos 1 ∷ pos o.identifier ∷ o.value ∷ []
 
 -- what words change: numbers 2 to 15
 abbrev pub changing : Card → List ℤ

@@ -14,7 +14,7 @@ use Rattle.number.proofs.Cuts.{ends_in_range}
 use Rattle.sheet.specs.Sheet.{at, sound_row, sound_sheet}
 use Rattle.sheet.specs.Lookup.{row_of}
 use Rattle.sheet.specs.Values.{numbers_of, fits_place, sound_from, sound_values}
-use Rattle.sheet.proofs.Sheets.{row_parts, row_of_sound}
+use Rattle.sheet.proofs.SoundSheets.{row_parts, row_of_sound}
 use Rattle.sheet.proofs.Values.{parts_fit}
 
 module _ (bench maker : List ℤ) where

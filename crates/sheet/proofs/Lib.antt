@@ -1,5 +1,5 @@
 pub mod Rows
-pub mod Sheets
+pub mod SoundSheets
 pub mod Values
 pub mod Tables
 pub mod OneRow

@@ -3,7 +3,8 @@
 use mathlib.Core.Path.{◌≡◌, refl, sym, ap, ◌∙◌}
 use mathlib.Core.Bool.{true, false, cond, false≢true}
 use mathlib.Core.List.{List, [], ◌∷◌}
-use Prim.Native.Nat.{ℕ, zero, suc, ◌+◌, ◌-◌, ◌%◌, ◌≤◌, ◌<◌}
+use Prim.Native.Nat.{ℕ, zero, suc, ◌+◌, ◌-◌, ◌*◌, ◌/◌, ◌≤◌, ◌<◌}
+use native.Mathlib.Nat.{zero-add}
 use native.Mathlib.Omega.{arith}
 use borrow.Author.Tests.{lt-ltb, le-ltb, ltb-true, ltb-false, eqb-true, eqb-false, eq-eqb}
 use lib.Dec.{ltb, eqb}
@@ -12,15 +13,15 @@ use lib.ListN.{length, get_or, take, drop, replicate, length-drop, length-set, l
 use lib.Seq.{ext_get_or, get_or-set_same, get_or-set_other}
 use Rattle.refusal.proofs.Logic.{ands, by-test}
 use Rattle.number.specs.Number.{in_range}
-use Rattle.sheet.specs.declared.Entry.{Entry}
-use Rattle.sheet.specs.declared.Entry.TheVariants.{Found, Missing}
 use Rattle.sheet.specs.Sheet.{at, sound_row, sound_sheet}
 use Rattle.sheet.specs.Lookup.{code_is, place_in, has_row, row_in, row_of}
 use Rattle.sheet.specs.Inner.{whole_row, entry_by, entry_at, place_of, places_from, index_of, part_at, marked_from, marked, marked_row}
 use Rattle.sheet.specs.Values.{entry_of, entry_in}
-use Rattle.sheet.proofs.Rows.{place_here, place_later, place_none, stands}
-use Rattle.sheet.proofs.Sheets.{row_parts, bench_wins, maker_else, row_of_sound}
+use Rattle.sheet.proofs.Rows.{whole_rows, rows_in, row_at, place_here, place_later, place_none, stands}
+use Rattle.sheet.proofs.SoundSheets.{row_parts, bench_wins, maker_else, row_of_sound}
 use Rattle.sheet.proofs.Values.{entry_below}
+use Rattle.std.specs.Prelude.{None, Option, Some}
+use Rattle.sheet.specs.declared.Row.{Row}
 
 -- ---- what the index holds
 
@@ -44,92 +45,86 @@ get_d_marked s base i (x ∷ xs) (suc j) h =
 -- ---- one row more, from the last to the first
 
 -- what a row does to the place of a code
-pub mark_same : (c : ℤ) (p : ℕ) (xs : List ℕ) (j : ℕ) → code_is c j ≡ true → j < length xs → get_or (marked_row c p xs) j 0 ≡ p
+pub mark_same : {A : Type 0} (c : ℤ) (p d : A) (xs : List A) (j : ℕ) → code_is c j ≡ true → j < length xs → get_or (marked_row c p xs) j d ≡ p
 unfolding code_is marked_row
-mark_same (pos n) p xs j e h = let q : n ≡ j = eqb-true n j e in rw q (get_or-set_same xs j p 0 h)
-mark_same (negsuc n) p xs j e h = absurd (false≢true e)
+mark_same (pos n) p d xs j e h = let q : n ≡ j = eqb-true n j e in rw q (get_or-set_same xs j p d h)
+mark_same (negsuc n) p d xs j e h = absurd (false≢true e)
 
-pub mark_other : (c : ℤ) (p : ℕ) (xs : List ℕ) (j : ℕ) → code_is c j ≡ false → get_or (marked_row c p xs) j 0 ≡ get_or xs j 0
+pub mark_other : {A : Type 0} (c : ℤ) (p d : A) (xs : List A) (j : ℕ) → code_is c j ≡ false → get_or (marked_row c p xs) j d ≡ get_or xs j d
 unfolding code_is marked_row
-mark_other (pos n) p xs j e = get_or-set_other xs n j p 0 (λ (q : j ≡ n). eqb-false n j e (sym q))
-mark_other (negsuc n) p xs j e = refl
+mark_other (pos n) p d xs j e = get_or-set_other xs n j p d (λ (q : j ≡ n). eqb-false n j e (sym q))
+mark_other (negsuc n) p d xs j e = refl
 
-pub length_mark : (c : ℤ) (p : ℕ) (xs : List ℕ) → length (marked_row c p xs) ≡ length xs
+pub length_mark : {A : Type 0} (c : ℤ) (p : A) (xs : List A) → length (marked_row c p xs) ≡ length xs
 unfolding marked_row
 length_mark (pos n) p xs = length-set xs n p
 length_mark (negsuc n) p xs = refl
 
--- all rows from k on are marked
+-- all rows from the one with the number k on are marked
 pub record Marked (s : List ℤ) (base : ℕ) (xs places : List ℕ) (k : ℕ) : Type 0 where
-  pub k-in : k ≤ length s
-  pub whole : k % 6 ≡ 0
   pub long : length places ≡ length xs
-  pub each : (j : ℕ) → j < length xs → get_or places j 0 ≡ place_from s base k (get_or xs j 0) j
+  pub each : (j : ℕ) → j < length xs → get_or places j 0 ≡ place_from s base (6 * k) (get_or xs j 0) j
 
 -- fewer than six numbers hold no row
-pub marks : (s : List ℤ) (base : ℕ) (xs : List ℕ) → Marked s base xs xs (length s - length s % 6)
+pub marks : (s : List ℤ) (base : ℕ) (xs : List ℕ) (k : ℕ) {rs : List (List ℤ)} → rs ≡ whole_rows s → k ≡ length rs → Marked s base xs xs k
 unfolding has_row
-marks s base xs =
-    let k = length s - length s % 6 in
-    record {
-      k-in = omega arith;
-      whole = omega arith;
-      long = refl;
-      each = λ j h.
-          let l : length (drop k s) < 6 = omega (arith, length-drop k s) in
-          let e : ltb (place_in (drop k s) j) (length (drop k s)) ≡ false = le-ltb (place_in (drop k s) j) (length (drop k s)) (omega (arith, place_none (drop k s) j l)) in
-          sym (rw e refl);
-    }
+marks s base xs k {rs} w h = record {
+  long = refl;
+  each = λ j i.
+      let n : k ≡ length s / 6 = h ∙ ap length w ∙ rows_in s in
+      let rest = drop (6 * k) s in
+      let l : length rest < 6 = omega (arith, length-drop (6 * k) s) in
+      sym (rw (le-ltb (place_in rest j) (length rest) (omega (arith, place_none rest j l))) refl);
+}
 
-module _ (s : List ℤ) (base : ℕ) (xs places : List ℕ) (k : ℕ) (h : 6 ≤ k) (m : Marked s base xs places k) where
-  room : (k - 6) + 6 ≤ length s
-  room = let a = m.k-in in omega arith
+module _ (s : List ℤ) (base : ℕ) (k : ℕ) (room : 6 * k + 6 ≤ length s) where
+  abbrev rest : List ℤ
+  rest = drop (6 * k) s
 
-  place_back : (j d : ℕ) → code_is (at s (k - 6)) j ≡ false → place_from s base (k - 6) d j ≡ place_from s base k d j
+  next : 6 * k + 6 ≡ 6 * (k + 1)
+  next = omega arith
+
+  place_back : (j d : ℕ) → code_is (at s (6 * k)) j ≡ false → place_from s base (6 * k) d j ≡ place_from s base (6 * (k + 1)) d j
   unfolding has_row
   place_back j d e =
-      let back : (k - 6) + 6 ≡ k = omega arith in
-      let p : place_in (drop (k - 6) s) j ≡ 6 + place_in (drop k s) j = place_later s (k - 6) j room e ∙ ap (λ (n : ℕ). 6 + place_in (drop n s) j) back in
-      let l : length (drop (k - 6) s) ≡ 6 + length (drop k s) = omega (arith, room, length-drop k s, length-drop (k - 6) s) in
-      by-test (ltb (place_in (drop k s) j) (length (drop k s)))
-      (λ t. let u = ltb-true (place_in (drop k s) j) (length (drop k s)) t in
-      rw (t, lt-ltb (place_in (drop (k - 6) s) j) (length (drop (k - 6) s)) (omega arith)) (omega arith))
-      (λ t. let u = ltb-false (place_in (drop k s) j) (length (drop k s)) t in
-      rw (t, le-ltb (place_in (drop (k - 6) s) j) (length (drop (k - 6) s)) (omega arith)) refl)
+      let left = drop (6 * (k + 1)) s in
+      let p : place_in rest j ≡ 6 + place_in left j = place_later s (6 * k) j room e ∙ ap (λ (n : ℕ). 6 + place_in (drop n s) j) next in
+      let l : length rest ≡ 6 + length left = omega (arith, room, length-drop (6 * k) s, length-drop (6 * (k + 1)) s) in
+      by-test (ltb (place_in left j) (length left))
+      (λ t. let u = ltb-true (place_in left j) (length left) t in rw (t, lt-ltb (place_in rest j) (length rest) (omega arith)) (omega arith))
+      (λ t. let u = ltb-false (place_in left j) (length left) t in rw (t, le-ltb (place_in rest j) (length rest) (omega arith)) refl)
 
-  place_first : (j d : ℕ) → code_is (at s (k - 6)) j ≡ true → base + (k - 6) ≡ place_from s base (k - 6) d j
+  place_first : (j d : ℕ) → code_is (at s (6 * k)) j ≡ true → base + 6 * k ≡ place_from s base (6 * k) d j
   unfolding has_row
   place_first j d e =
-      let p : place_in (drop (k - 6) s) j ≡ 0 = place_here s (k - 6) j room e in
-      let l : 6 ≤ length (drop (k - 6) s) = omega (arith, room, length-drop (k - 6) s) in
-      rw (lt-ltb (place_in (drop (k - 6) s) j) (length (drop (k - 6) s)) (omega arith)) (omega arith)
+      let p : place_in rest j ≡ 0 = place_here s (6 * k) j room e in
+      let l : 6 ≤ length rest = omega (arith, room, length-drop (6 * k) s) in
+      rw (lt-ltb (place_in rest j) (length rest) (omega arith)) (omega arith)
 
-  pub marks_more : Marked s base xs (marked_row (at s (k - 6)) (base + (k - 6)) places) (k - 6)
-  marks_more =
-      let a = m.k-in in
-      let b = m.whole in
-      record {
-        k-in = omega arith;
-        whole = omega arith;
-        long = length_mark (at s (k - 6)) (base + (k - 6)) places ∙ m.long;
-        each = λ j l. by-test (code_is (at s (k - 6)) j)
-            (λ t. mark_same (at s (k - 6)) (base + (k - 6)) places j t (omega (arith, m.long)) ∙ place_first j (get_or xs j 0) t)
-            (λ t. mark_other (at s (k - 6)) (base + (k - 6)) places j t ∙ m.each j l ∙ sym (place_back j (get_or xs j 0) t));
-      }
+pub marks_more : (s : List ℤ) (base : ℕ) (xs places next : List ℕ) (k after : ℕ) (z : ℤ) {rs : List (List ℤ)} → rs ≡ whole_rows s → k < length rs
+    → z ≡ at (get_or rs k []) 0 → next ≡ marked_row z (base + 6 * k) places → after ≡ k + 1 → Marked s base xs places after → Marked s base xs next k
+marks_more s base xs places next k after z {rs} w h q e f p =
+    let m : Marked s base xs places (k + 1) = rw f at p in
+    let n : k < length s / 6 = omega (arith, ap length w, rows_in s) in
+    let room : 6 * k + 6 ≤ length s = omega arith in
+    let c : next ≡ marked_row (at s (6 * k)) (base + 6 * k) places = e ∙ ap (λ (x : ℤ). marked_row x (base + 6 * k) places) (q ∙ ap (λ (l : List (List ℤ)). at (get_or l k []) 0) w ∙ (row_at s k (rw w at h)).code) in
+    record {
+      long = ap length c ∙ length_mark (at s (6 * k)) (base + 6 * k) places ∙ m.long;
+      each = λ j l. by-test (code_is (at s (6 * k)) j)
+          (λ t. rw c (mark_same (at s (6 * k)) (base + 6 * k) 0 places j t (omega (arith, m.long)) ∙ place_first s base k room j (get_or xs j 0) t))
+          (λ t. rw c (mark_other (at s (6 * k)) (base + 6 * k) 0 places j t ∙ m.each j l ∙ sym (place_back s base k room j (get_or xs j 0) t)));
+    }
 
-pub marked_all : (s : List ℤ) (base : ℕ) (xs places : List ℕ) (k : ℕ) → k < 6 → Marked s base xs places k → places ≡ marked s base xs
+pub marked_all : (s : List ℤ) (base : ℕ) (xs places : List ℕ) (k : ℕ) → k ≡ 0 → Marked s base xs places k → places ≡ marked s base xs
 unfolding marked
-marked_all s base xs places k h m =
-    let z : k ≡ 0 = omega (arith, m.whole) in
+marked_all s base xs places k e p =
+    let m : Marked s base xs places 0 = rw e at p in
     ext_get_or 0 places (marked_from s base 0 xs) (m.long ∙ sym (length_marked s base 0 xs))
     (λ j l.
-    let e : 0 + j ≡ j = omega arith in
-    let f : 0 + place_in s j ≡ place_in s j = omega arith in
     let n : j < length xs = omega (arith, m.long) in
     m.each j n
-    ∙ ap (λ (n : ℕ). place_from s base n (get_or xs j 0) j) z
-    ∙ ap (λ (p : ℕ). cond (has_row s j) (base + p) (get_or xs j 0)) f
-    ∙ ap (λ (q : ℕ). cond (has_row s q) (base + place_in s q) (get_or xs j 0)) (sym e)
+    ∙ ap (λ (p : ℕ). cond (has_row s j) (base + p) (get_or xs j 0)) (zero-add (place_in s j))
+    ∙ ap (λ (q : ℕ). cond (has_row s q) (base + place_in s q) (get_or xs j 0)) (sym (zero-add j))
     ∙ sym (get_d_marked s base 0 xs j n))
 
 -- ---- the two sheets
@@ -175,7 +170,7 @@ unfolding entry_by entry_of sound_row whole_row
 by_length r e = rw e refl
 
 -- within a list the default is not seen
-pub get_d_within : (xs : List ℕ) (i d e : ℕ) → i < length xs → get_or xs i d ≡ get_or xs i e
+pub get_d_within : {A : Type 0} (xs : List A) (i : ℕ) (d e : A) → i < length xs → get_or xs i d ≡ get_or xs i e
 get_d_within [] i d e h = absurd (omega arith)
 get_d_within (x ∷ xs) zero d e h = refl
 get_d_within (x ∷ xs) (suc i) d e h = get_d_within xs i d e (omega arith)
@@ -226,14 +221,14 @@ module _ (bench maker : List ℤ) (i : ℕ) where
       (λ t. rw t (part_behind (place_in maker i) ∙ sym (stands maker i).row) ∙ sym (maker_else bench maker i t))
 
   -- a code behind the index has no row
-  past_entry : 128 ≤ i → entry_in bench maker i ≡ Missing
+  past_entry : 128 ≤ i → entry_in bench maker i ≡ None
   past_entry h = go (entry_in bench maker i) refl
     where
-      go : (x : Entry) → entry_in bench maker i ≡ x → x ≡ Missing
-      go (Found r) e = absurd (omega (arith, h, entry_below bench maker i r e))
-      go Missing e = refl
+      go : (x : Option Row) → entry_in bench maker i ≡ x → x ≡ None
+      go (Some r) e = absurd (omega (arith, h, entry_below bench maker i r e))
+      go None e = refl
 
-  end_entry : entry_by (part_at bench maker (length bench + length maker)) ≡ Missing
+  end_entry : entry_by (part_at bench maker (length bench + length maker)) ≡ None
   unfolding entry_by whole_row
   end_entry = ap entry_by (part_behind (length maker) ∙ ap (take 6) (let h : length maker ≤ length maker = omega arith in drop_of_length-le maker h))
 

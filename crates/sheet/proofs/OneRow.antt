@@ -16,13 +16,13 @@ use Rattle.number.proofs.Cuts.{ends_in_range, four_digits, one_multiple}
 use Rattle.message.specs.Message.{question, is_identifier}
 use Rattle.message.proofs.Messages.{plain_identifier}
 use Rattle.sheet.specs.declared.Row.{Row}
-use Rattle.sheet.specs.declared.Entry.TheVariants.{Found}
 use Rattle.sheet.specs.Sheet.{rows, sound_row, sound_rows, sound_sheet}
 use Rattle.sheet.specs.Lookup.{code_is, is_for, row_among, row_in, has_row}
 use Rattle.sheet.specs.Values.{numbers_of, entry_in, sound_values}
-use Rattle.sheet.proofs.Sheets.{parts_row, none_row, code_sound, alone_sound}
+use Rattle.sheet.proofs.SoundSheets.{parts_row, none_row, code_sound, alone_sound}
 use Rattle.sheet.proofs.Values.{alone_entry, parts_fit, set_here}
 use Rattle.sheet.proofs.Tables.{fits_test, fits-test, allowed_sound}
+use Rattle.std.specs.Prelude.{Some}
 
 -- ---- no rows
 
@@ -73,7 +73,7 @@ module _ (i access d : ℕ) (pi : is_identifier i ≡ true) (q : eqb i question 
   pub one_sound : sound_sheet (one_row i access d) ≡ true
   one_sound = alone_sound (one_row i access d) one-row
 
-  pub one_entry : entry_in (one_row i access d) [] i ≡ Found (its_numbers access d)
+  pub one_entry : entry_in (one_row i access d) [] i ≡ Some (its_numbers access d)
   unfolding numbers_of
   one_entry = alone_entry (one_row i access d) [] i one-row refl
 

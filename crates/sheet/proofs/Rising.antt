@@ -19,14 +19,14 @@ use Rattle.number.proofs.Cuts.{four_digits, one_multiple, ends_in_range}
 use Rattle.number.specs.Number.{in_range}
 use Rattle.message.specs.Message.{question, is_identifier}
 use Rattle.message.proofs.Messages.{plain_identifier}
-use Rattle.sheet.specs.declared.Entry.TheVariants.{Found}
 use Rattle.sheet.specs.Sheet.{at, rows, sound_row, sound_rows, sound_sheet}
 use Rattle.sheet.specs.Lookup.{code_is, is_for, row_among, row_in, has_row}
 use Rattle.sheet.specs.Values.{numbers_of, entry_of, entry_in, sound_values}
-use Rattle.sheet.proofs.Sheets.{sound_code, code-test, bench_wins, row_has, none_row}
+use Rattle.sheet.proofs.SoundSheets.{sound_code, code-test, bench_wins, row_has, none_row}
 use Rattle.sheet.proofs.OneRow.{one_row, its_numbers, one-row}
 use Rattle.sheet.proofs.Values.{parts_fit, set_here, set_elsewhere}
 use Rattle.sheet.proofs.Tables.{fits_test, fits-test, allow_test, allowed_sound}
+use Rattle.std.specs.Prelude.{Some}
 
 -- identifiers from i on, as many as there are numbers
 abbrev pub Codes : ℕ → List Decimal → Type 0
@@ -107,7 +107,7 @@ module _ (i j : ℕ) (xs : List Decimal) (h : j < length xs) where
   unfolding row_in
   here = rising_among i j xs h
 
-  pub rising_entry : Codes i xs → every fits xs ≡ true → (maker : List ℤ) → entry_in (rising_rows i xs) maker (i + j) ≡ Found (its_numbers 1 (nth xs j).decimals)
+  pub rising_entry : Codes i xs → every fits xs ≡ true → (maker : List ℤ) → entry_in (rising_rows i xs) maker (i + j) ≡ Some (its_numbers 1 (nth xs j).decimals)
   unfolding entry_in entry_of numbers_of
   rising_entry c e maker =
       rw (bench_wins (rising_rows i xs) maker (i + j) (row_has (rising_rows i xs) (i + j) (ap length here)), here, nth_row i j xs h c e)

@@ -15,7 +15,7 @@ use Rattle.number.proofs.Cuts.{in_range_ends, ends_in_range, multiple_step, mult
 use Rattle.sheet.specs.Sheet.{at, rows, sound_numbers, sound_row, sound_rows, sound_sheet}
 use Rattle.sheet.specs.Lookup.{is_for, row_among, place_among, row_in, place_in, has_row, row_of}
 use Rattle.sheet.specs.Values.{numbers_of, fits_row, fits_place, sound_from, sound_values}
-use Rattle.sheet.proofs.Sheets.{row_for, bench_wins, maker_else, same_test, code_test, code-test}
+use Rattle.sheet.proofs.SoundSheets.{row_for, bench_wins, maker_else, same_test, code_test, code-test}
 use Rattle.sheet.proofs.Values.{from_places}
 
 -- ---- numbers

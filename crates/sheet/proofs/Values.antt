@@ -22,9 +22,8 @@ use Rattle.sheet.specs.Sheet.{at, sound_identifier, sound_row, sound_sheet}
 use Rattle.sheet.specs.Lookup.{row_in, has_row, row_of}
 use Rattle.sheet.specs.Values.{numbers_of, entry_of, entry_in, is_readable, is_writable, is_read_write, fits_row, fits_place, sound_from, sound_values}
 use Rattle.sheet.specs.declared.Row.{Row}
-use Rattle.sheet.specs.declared.Entry.{Entry}
-use Rattle.sheet.specs.declared.Entry.TheVariants.{Found, Missing}
-use Rattle.sheet.proofs.Sheets.{row_parts, row_has, row_none, bench_wins, maker_else, row_of_cases, row_of_sound, sound_code, alone_row}
+use Rattle.sheet.proofs.SoundSheets.{row_parts, row_has, row_none, bench_wins, maker_else, row_of_cases, row_of_sound, sound_code, alone_row}
+use Rattle.std.specs.Prelude.{None, Option, Some}
 
 -- ---- a row by value
 
@@ -58,16 +57,16 @@ numbers_sound r e =
     }
 
 -- an entry found is a sound row, and its six numbers are those of the row
-found : (l : List ℤ) (r : Row) → entry_of l ≡ Found r → (sound_row l ≡ true) × (numbers_of l ≡ r)
+found : (l : List ℤ) (r : Row) → entry_of l ≡ Some r → (sound_row l ≡ true) × (numbers_of l ≡ r)
 unfolding entry_of
 found l r e =
-    choice (λ (x : Entry). x ≡ Found r → (sound_row l ≡ true) × (numbers_of l ≡ r)) (sound_row l)
+    choice (λ (x : Option Row). x ≡ Some r → (sound_row l ≡ true) × (numbers_of l ≡ r)) (sound_row l)
     (λ t q. (t, cc))
     (λ t q. absurd (let z : ◌≡◌ {A = ℕ} 0 1 = cc in omega arith))
     e
 
 module _ (bench maker : List ℤ) (i : ℕ) where
-  module _ (r : Row) (e : entry_in bench maker i ≡ Found r) where
+  module _ (r : Row) (e : entry_in bench maker i ≡ Some r) where
     pub entry_numbers : (sound_row (row_of bench maker i) ≡ true) × (numbers_of (row_of bench maker i) ≡ r)
     unfolding entry_in
     entry_numbers = found (row_of bench maker i) r e
@@ -91,28 +90,28 @@ module _ (bench maker : List ℤ) (i : ℕ) where
 
   -- in two sound sheets an entry is found exactly where there is a row
   pub entry_row : sound_sheet bench ≡ true → sound_sheet maker ≡ true → length (row_of bench maker i) ≡ 6
-      → entry_in bench maker i ≡ Found (numbers_of (row_of bench maker i))
+      → entry_in bench maker i ≡ Some (numbers_of (row_of bench maker i))
   unfolding entry_in entry_of
   entry_row p q h = rw (row_of_sound bench maker i p q h)
 
-  pub entry_none : row_of bench maker i ≡ [] → entry_in bench maker i ≡ Missing
+  pub entry_none : row_of bench maker i ≡ [] → entry_in bench maker i ≡ None
   unfolding entry_in entry_of sound_row
   entry_none e = ap entry_of e
 
   -- nor where neither sheet has a row
-  pub entry_absent : has_row bench i ≡ false → has_row maker i ≡ false → entry_in bench maker i ≡ Missing
+  pub entry_absent : has_row bench i ≡ false → has_row maker i ≡ false → entry_in bench maker i ≡ None
   entry_absent p q = entry_none (maker_else bench maker i p ∙ row_none maker i q)
 
   -- no entry for a code that is no identifier, or `?`
-  pub entry_missing : sound_identifier (pos i) ≡ false → entry_in bench maker i ≡ Missing
+  pub entry_missing : sound_identifier (pos i) ≡ false → entry_in bench maker i ≡ None
   entry_missing h = go (entry_in bench maker i) refl
     where
-      go : (x : Entry) → entry_in bench maker i ≡ x → x ≡ Missing
-      go (Found r) e = absurd (false≢true (sym h ∙ entry_code r e))
-      go Missing e = refl
+      go : (x : Option Row) → entry_in bench maker i ≡ x → x ≡ None
+      go (Some r) e = absurd (false≢true (sym h ∙ entry_code r e))
+      go None e = refl
 
 -- a sheet of one sound row shows it, whatever the other sheet has
-pub alone_entry : (r maker : List ℤ) (i : ℕ) → sound_row r ≡ true → at r 0 ≡ pos i → entry_in r maker i ≡ Found (numbers_of r)
+pub alone_entry : (r maker : List ℤ) (i : ℕ) → sound_row r ≡ true → at r 0 ≡ pos i → entry_in r maker i ≡ Some (numbers_of r)
 unfolding entry_in entry_of
 alone_entry r maker i e q =
     let p = row_parts r e in
@@ -188,7 +187,7 @@ all_places b m i (v ∷ vs) f =
     (all_places b m (suc i) vs (λ k l. rw (add-suc i k, ← suc-add i k) at (f (suc k) (omega arith))))
 
 -- six numbers that are a sound row allow what their entry allows; no numbers allow anything
-fits_found : (l : List ℤ) (r : Row) (v : ℤ) → entry_of l ≡ Found r → fits_place l v ≡ fits_row r v
+fits_found : (l : List ℤ) (r : Row) (v : ℤ) → entry_of l ≡ Some r → fits_place l v ≡ fits_row r v
 unfolding fits_place
 fits_found l r v e =
     let f = found l r e in
@@ -209,7 +208,7 @@ module _ (bench maker : List ℤ) where
   -- 128 values, and each that has a row is one that the row allows
   pub record GoodValues (vs : List ℤ) : Type 0 where
     pub count : length vs ≡ 128
-    pub each : (i : ℕ) (r : Row) → entry_in bench maker i ≡ Found r → fits_row r (at vs i) ≡ true
+    pub each : (i : ℕ) (r : Row) → entry_in bench maker i ≡ Some r → fits_row r (at vs i) ≡ true
 
   pub good_values : (vs : List ℤ) → sound_values bench maker vs ≡ true → GoodValues vs
   unfolding entry_in
@@ -227,7 +226,7 @@ module _ (bench maker : List ℤ) where
       (λ t. refl))
 
   -- a value that the row allows may be stored
-  pub set_sound : (vs : List ℤ) (i : ℕ) (r : Row) (v : ℤ) → sound_values bench maker vs ≡ true → entry_in bench maker i ≡ Found r → fits_row r v ≡ true
+  pub set_sound : (vs : List ℤ) (i : ℕ) (r : Row) (v : ℤ) → sound_values bench maker vs ≡ true → entry_in bench maker i ≡ Some r → fits_row r v ≡ true
       → sound_values bench maker (set vs i v) ≡ true
   unfolding entry_in
   set_sound vs i r v e f h =

@@ -4,8 +4,7 @@ use Rattle.number.specs.Number.{in_range, is_multiple}
 use Rattle.sheet.specs.Sheet.{at, sound_row}
 use Rattle.sheet.specs.Lookup.{row_of}
 use Rattle.sheet.specs.declared.Row.{Row}
-use Rattle.sheet.specs.declared.Entry.{Entry}
-use Rattle.sheet.specs.declared.Entry.TheVariants.{Found, Missing}
+use Rattle.std.specs.Prelude.{None, Option, Some}
 
 -- ---- a row
 
@@ -14,11 +13,11 @@ unfoldable pub numbers_of : List ℤ → Row
 numbers_of r = record { access = nat_abs (at r 1); decimals = nat_abs (at r 2); step = at r 3; least = at r 4; greatest = at r 5 }
 
 -- a sound row, or none; every row of a sound sheet is sound
-unfoldable pub entry_of : List ℤ → Entry
-entry_of r = cond (sound_row r) (Found (numbers_of r)) Missing
+unfoldable pub entry_of : List ℤ → Option Row
+entry_of r = cond (sound_row r) (Some (numbers_of r)) None
 
 -- the row of an identifier in two sheets, by value
-unfoldable pub entry_in : List ℤ → List ℤ → ℕ → Entry
+unfoldable pub entry_in : List ℤ → List ℤ → ℕ → Option Row
 entry_in bench maker i = entry_of (row_of bench maker i)
 
 -- document 01: "access (1 read only, 2 read and write, 3 write only)"; all but "write only" can be read
@@ -26,9 +25,9 @@ unfoldable pub is_readable : Row → Bool
 is_readable r = not (eqb r.access 3)
 
 -- a row, and one that can be read
-unfoldable pub is_readable_entry : Entry → Bool
-is_readable_entry (Found r) = is_readable r
-is_readable_entry Missing = false
+unfoldable pub is_readable_entry : Option Row → Bool
+is_readable_entry (Some r) = is_readable r
+is_readable_entry None = false
 
 -- all but "read only"
 unfoldable pub is_writable : Row → Bool

@@ -1,17 +1,33 @@
 // Sheets of rows, the lookup of an identifier's row in two of them, and the values that the rows allow.
-// A sheet is lent as numbers, six to a row: identifier, access, decimals, step, least, greatest.
+// A sheet is lent as numbers, six to a row: identifier, access, decimals, step, least, greatest. The C interface lends it so, and
+// `kav_lookup` shows a row as the part it stands in: no row is kept by value.
 #![tactic(auto)]
 
-ghost use Rattle.std.specs.Prelude.{◌≡◌, true, ◌+◌, ◌≤◌, length, get_or, take, drop};
-ghost use Rattle.sheet.specs.Sheet.{at, rows, sound_identifier, sound_numbers, sound_row, sound_sheet};
-ghost use Rattle.sheet.specs.Lookup.{has_row, code_is, place_in, row_of, shown, from, row_lies, shown_lies};
-ghost use Rattle.sheet.specs.Values.{numbers_of, entry_of, entry_in, is_readable, is_writable, is_read_write, fits_row, fits_place, sound_values};
-ghost use Rattle.sheet.specs.Inner.{whole_row, entry_at, index_of, part_at, marked_row, marked, fits_once, fits_rows, seen_rows};
+ghost use Rattle.std.specs.Prelude.{◌≡◌, true, ◌&&◌, ◌+◌, ◌≤◌, length, get_or, take, drop};
+ghost use Rattle.std.specs.List.{position};
+ghost use Rattle.sheet.specs.Sheet.{at, rows, sound_identifier, sound_row, sound_sheet};
+ghost use Rattle.sheet.specs.Lookup.{has_row, code_is, row_of, shown, from, row_lies, shown_lies};
+ghost use Rattle.sheet.specs.Values.{entry_of, entry_in, is_readable, is_writable, is_read_write, fits_row, fits_place, sound_values};
+ghost use Rattle.sheet.specs.Inner.{start_in, entry_by, entries, index_of, part_at, marked_row, marked, fits_once, fits_rows, seen_rows};
 
 // Character codes, each of which may have a row and has a value.
 pub const CODES: usize = 128;
 
-// A row by value, without its identifier.
+// The two sheets that a card is lent: the bench's own rows hold before the maker's.
+#[derive(Clone, Copy)]
+pub struct Sheets<'a> {
+    pub bench: &'a [i32],
+    pub maker: &'a [i32],
+}
+
+// Where the row of each character code starts in the two sheets, the maker's behind the bench's; behind both where it has none.
+#[derive(Clone, Copy)]
+pub struct Index<'a> {
+    pub sheets: Sheets<'a>,
+    pub places: &'a [usize],
+}
+
+// A row by value, without its identifier. `access` stays document 01's number: the tests below promise an answer for every number.
 #[derive(Clone, Copy)]
 pub struct Row {
     pub access: u8,
@@ -21,14 +37,7 @@ pub struct Row {
     pub greatest: i32,
 }
 
-// What an identifier has: a sound row, or none.
-#[derive(Clone, Copy)]
-pub enum Entry {
-    Found(Row),
-    Missing,
-}
-
-// An identifier that a row may have.
+// An identifier that a row may have. With `u8::try_from` the test of a sheet, part of each call that steps, takes 11 % more.
 fn sound_identifier(x: i32) -> bool
     ensures { result ≡ sound_identifier x }
 {
@@ -40,17 +49,12 @@ fn sound_identifier(x: i32) -> bool
     }
 }
 
-// The rules of a row.
-fn sound_numbers(
-    identifier: i32,
-    access: i32,
-    decimals: i32,
-    step: i32,
-    least: i32,
-    greatest: i32,
-) -> bool
-    ensures { result ≡ sound_numbers identifier access decimals step least greatest }
+// A row by itself.
+#[tactic(auto, unfolding(crate::specs::Sheet::sound_row, crate::specs::Sheet::sound_numbers))]
+fn sound_row(row: &[i32; 6]) -> bool
+    ensures { result ≡ sound_row row.now }
 {
+    let &[identifier, access, decimals, step, least, greatest] = row;
     sound_identifier(identifier)
         & number::in_range(1, access, 3)
         & number::in_range(0, decimals, 3)
@@ -62,63 +66,54 @@ fn sound_numbers(
         & number::is_multiple(greatest, step)
 }
 
-// A row by itself.
-fn sound_row(row: &[i32]) -> bool
-    ensures { result ≡ sound_row row.now }
-{
-    if row.len() != 6 {
-        return false;
-    }
-    sound_numbers(row[0], row[1], row[2], row[3], row[4], row[5])
-}
-
 // 0 to 64 whole rows, each sound, identifiers rising.
 pub fn sound_sheet(sheet: &[i32]) -> bool
     ensures { result ≡ sound_sheet sheet.now }
 {
-    if 384 < sheet.len() {
+    let (rows, left) = sheet.as_chunks::<6>();
+    if (64 < rows.len()) | !left.is_empty() {
         return false;
     }
-    let mut last: i32 = 0;
-    let mut i = 0;
-    while 6 <= sheet.len() - i {
-        let identifier = sheet[i];
-        let next = i + 6;
-        if !(sound_row(&sheet[i..next]) & (last < identifier)) {
+    let mut last = 0;
+    for row in rows {
+        if !(sound_row(row) & (last < row[0])) {
             return false;
         }
-        last = identifier;
-        i = next;
+        last = row[0];
     }
-    i == sheet.len()
+    true
 }
 
 // The number is the identifier's code.
+#[tactic(auto, unfolding(crate::specs::Lookup::code_is))]
 fn code_is(x: i32, identifier: u8) -> bool
     ensures { result ≡ code_is x identifier }
 {
-    x == identifier as i32
+    x == i32::from(identifier)
 }
 
-// Where the identifier's row starts; the sheet's end where there is none.
-fn place_in(sheet: &[i32], identifier: u8) -> usize
-    ensures { result ≡ place_in sheet.now identifier }
+// The first of some rows with the identifier.
+fn position(rows: &[[i32; 6]], identifier: u8) -> Option<usize>
+    ensures { result ≡ position (λ r. code_is (at r 0) identifier) rows.now }
 {
-    let mut i = 0;
-    while 6 <= sheet.len() - i {
-        if code_is(sheet[i], identifier) {
-            return i;
-        }
-        i += 6;
-    }
-    sheet.len()
+    rows.iter().position(|row| code_is(row[0], identifier))
+}
+
+// Where the identifier's row starts, if it has one.
+fn place_in(sheet: &[i32], identifier: u8) -> Option<usize>
+    ensures { result ≡ start_in sheet.now identifier }
+{
+    let (rows, _) = sheet.as_chunks::<6>();
+    let row = position(rows, identifier)?;
+    Some(6 * row)
 }
 
 // Whether the sheet has a row of the identifier.
+#[tactic(auto, unfolding(crate::specs::Inner::start_in, crate::specs::Lookup::has_row))]
 pub fn has_row(sheet: &[i32], identifier: u8) -> bool
     ensures { result ≡ has_row sheet.now identifier }
 {
-    place_in(sheet, identifier) < sheet.len()
+    place_in(sheet, identifier).is_some()
 }
 
 // Six numbers from a place on, or those that are left.
@@ -126,52 +121,20 @@ fn six<'a>(sheet: &'a [i32], start: usize) -> &'a [i32]
     ensures numbers { result.now ≡ take 6 (drop start sheet.now) }
     ensures lies { start ≤ length sheet.now → result.ref_ptr ≡ from sheet.entry.ref_ptr start }
 {
-    let len = sheet.len();
-    if len <= start {
-        return &sheet[len..len];
-    }
-    if len - start < 6 {
-        return &sheet[start..len];
-    }
-    let end = start + 6;
+    let start = start.min(sheet.len());
+    let end = sheet.len().min(start + 6);
     &sheet[start..end]
 }
 
-// The row of an identifier, as the part of the sheet it stands in. No sheet is tested here: `lookup` and `card::check` have done so before.
-pub fn find_row<'a>(bench: &'a [i32], maker: &'a [i32], identifier: u8) -> &'a [i32]
-    ensures numbers { result.now ≡ row_of bench.now maker.now identifier }
-    ensures lies { result.ref_ptr ≡ row_lies bench.entry.ref_ptr maker.entry.ref_ptr bench.now maker.now identifier }
-{
-    let in_bench = place_in(bench, identifier);
-    if in_bench < bench.len() {
-        return six(bench, in_bench);
-    }
-    let in_maker = place_in(maker, identifier);
-    six(maker, in_maker)
-}
-
-// The lookup: an empty part where there is no row, or a sheet is unsound.
-pub fn lookup<'a>(bench: &'a [i32], maker: &'a [i32], identifier: u8) -> &'a [i32]
-    ensures numbers { result.now ≡ shown bench.now maker.now identifier }
-    ensures lies { result.ref_ptr ≡ shown_lies bench.entry.ref_ptr maker.entry.ref_ptr bench.now maker.now identifier }
-{
-    if sound_sheet(bench) & sound_sheet(maker) {
-        return find_row(bench, maker, identifier);
-    }
-    let end = maker.len();
-    &maker[end..end]
-}
-
 // One row at the place of its identifier.
+#[tactic(auto, unfolding(crate::specs::Inner::marked_row))]
 fn mark_row(code: i32, place: usize, places: &mut [usize])
     ensures { places.new ≡ marked_row code place places.old }
 {
-    if code < 0 {
-        return;
-    }
-    let at = code as usize;
-    if at < places.len() {
-        places[at] = place;
+    if let Ok(at) = usize::try_from(code) {
+        if at < places.len() {
+            places[at] = place;
+        }
     }
 }
 
@@ -180,185 +143,210 @@ fn mark(sheet: &[i32], base: usize, places: &mut [usize])
     requires { base + length sheet.now ≤ 9223372036854775807 }
     ensures { places.new ≡ marked sheet.now base places.old }
 {
-    let mut k = sheet.len() - sheet.len() % 6;
-    while 6 <= k {
-        k -= 6;
-        mark_row(sheet[k], base + k, places);
+    let (rows, _) = sheet.as_chunks::<6>();
+    for k in (0..rows.len()).rev() {
+        mark_row(rows[k][0], base + 6 * k, places);
     }
 }
 
-// Where the row of each character code starts in the two sheets, the maker's behind the bench's; behind both where it has none.
-pub fn index<'a>(bench: &'a [i32], maker: &'a [i32]) -> [usize; CODES]
-    ensures { result ≡ index_of bench.now maker.now }
+// Six numbers by value, of which access and decimals are in range; or none.
+#[tactic(auto, unfolding(crate::specs::Inner::entry_by, crate::specs::Inner::whole_row, crate::specs::Values::numbers_of))]
+fn entry_by(part: &[i32]) -> Option<Row>
+    ensures { result ≡ entry_by part.now }
 {
-    let end = bench.len() + maker.len();
-    let mut places = [end; CODES];
-    mark(maker, bench.len(), &mut places);
-    mark(bench, 0, &mut places);
-    places
-}
-
-// The part of the two sheets that starts at a place of the index.
-fn part_at<'a>(bench: &'a [i32], maker: &'a [i32], place: usize) -> &'a [i32]
-    ensures { result.now ≡ part_at bench.now maker.now place }
-{
-    if place < bench.len() {
-        return six(bench, place);
+    let &[_, access, decimals, step, least, greatest] = part else {
+        return None;
+    };
+    if !(number::in_range(1, access, 3) & number::in_range(0, decimals, 3)) {
+        return None;
     }
-    six(maker, place - bench.len())
-}
-
-// Six numbers, of which access and decimals are in range.
-fn whole_row(part: &[i32]) -> bool
-    ensures { result ≡ whole_row part.now }
-{
-    if part.len() != 6 {
-        return false;
-    }
-    number::in_range(1, part[1], 3) & number::in_range(0, part[2], 3)
-}
-
-// A row by value, from its six numbers.
-fn numbers_of(part: &[i32]) -> Row
-    requires { whole_row part.now ≡ true }
-    ensures { result ≡ numbers_of part.now }
-{
-    let access = part[1] as u8;
-    let decimals = part[2] as u8;
-    let step = part[3];
-    let least = part[4];
-    let greatest = part[5];
-    Row {
-        access,
-        decimals,
+    Some(Row {
+        access: access as u8,
+        decimals: decimals as u8,
         step,
         least,
         greatest,
-    }
+    })
 }
 
-// A sound row, or none.
-fn entry_of(part: &[i32]) -> Entry
+// A sound row by value, or none.
+#[tactic(auto, using(crate::proofs::Marks::sound_whole), unfolding(crate::specs::Values::entry_of, crate::specs::Inner::entry_by, crate::specs::Sheet::sound_row))]
+fn entry_of(part: &[i32]) -> Option<Row>
     ensures { result ≡ entry_of part.now }
 {
-    if sound_row(part) {
-        Entry::Found(numbers_of(part))
+    if sound_row(part.as_array()?) {
+        entry_by(part)
     } else {
-        Entry::Missing
+        None
     }
-}
-
-// The row of an identifier, by value.
-pub fn find<'a>(bench: &'a [i32], maker: &'a [i32], identifier: u8) -> Entry
-    ensures { result ≡ entry_in bench.now maker.now identifier }
-{
-    let part = find_row(bench, maker, identifier);
-    entry_of(part)
-}
-
-// The place of an identifier in an index; behind both sheets where the index has none.
-fn place_at<'a>(bench: &'a [i32], maker: &'a [i32], places: &[usize], identifier: u8) -> usize
-    ensures { result ≡ get_or places.now identifier (length bench.now + length maker.now) }
-{
-    let at = identifier as usize;
-    if at < places.len() {
-        places[at]
-    } else {
-        bench.len() + maker.len()
-    }
-}
-
-// The row of an identifier by an index of the sheets, by value. Less of it is tested than in `find`: a run has tested the sheets.
-pub fn find_at<'a>(bench: &'a [i32], maker: &'a [i32], places: &[usize], identifier: u8) -> Entry
-    ensures { result ≡ entry_at bench.now maker.now places.now identifier }
-{
-    let place = place_at(bench, maker, places, identifier);
-    let part = part_at(bench, maker, place);
-    if whole_row(part) {
-        Entry::Found(numbers_of(part))
-    } else {
-        Entry::Missing
-    }
-}
-
-pub fn is_readable(row: Row) -> bool
-    ensures { result ≡ is_readable row }
-{
-    row.access != 3
-}
-
-pub fn is_writable(row: Row) -> bool
-    ensures { result ≡ is_writable row }
-{
-    row.access != 1
-}
-
-pub fn is_read_write(row: Row) -> bool
-    ensures { result ≡ is_read_write row }
-{
-    row.access == 2
 }
 
 // A value that the row allows.
-pub fn fits_row(row: Row, value: i32) -> bool
-    ensures { result ≡ fits_row row value }
+#[tactic(auto, unfolding(crate::specs::Values::fits_place, crate::specs::Values::fits_row, crate::specs::Values::numbers_of))]
+fn fits_place(row: &[i32; 6], value: i32) -> bool
+    ensures { result ≡ fits_place row.now value }
 {
-    number::in_range(row.least, value, row.greatest) & number::is_multiple(value, row.step)
-}
-
-// A value that may stand where the part is the row: any value where there is none.
-fn fits_place(part: &[i32], value: i32) -> bool
-    ensures { result ≡ fits_place part.now value }
-{
-    if part.len() != 6 {
-        return true;
-    }
-    number::in_range(part[4], value, part[5]) & number::is_multiple(value, part[3])
+    let &[_, _, _, step, least, greatest] = row;
+    number::in_range(least, value, greatest) & number::is_multiple(value, step)
 }
 
 // The value at a row's code, where no row with that code was seen before; the code is seen afterwards.
-fn fits_once(row: &[i32], values: &[i32], seen: &mut [u8]) -> bool
-    requires { (length row.now ≡ 6) × (length values.now ≡ 128) × (length seen.old ≡ 128) }
+#[tactic(auto, unfolding(crate::specs::Inner::fits_once, crate::specs::Inner::is_seen, crate::specs::Inner::marked_row))]
+fn fits_once(row: &[i32; 6], values: &[i32; CODES], seen: &mut [bool; CODES]) -> bool
     ensures fits { result ≡ fits_once row.now values.now seen.old }
-    ensures seen { seen.new ≡ marked_row (at row.now 0) 1 seen.old }
+    ensures seen { seen.new ≡ marked_row (at row.now 0) true seen.old }
 {
-    let code = row[0];
-    if !number::in_range(0, code, 127) {
-        return true;
+    match usize::try_from(row[0]) {
+        Ok(place) if place < CODES => {
+            let before = seen[place];
+            seen[place] = true;
+            before | fits_place(row, values[place])
+        }
+        _ => true,
     }
-    let place = code as usize;
-    let before = seen[place];
-    seen[place] = 1;
-    let value = values[place];
-    (before != 0) | fits_place(row, value)
 }
 
 // The rows of a sheet, one after the other.
-fn fits_rows(sheet: &[i32], values: &[i32], seen: &mut [u8]) -> bool
-    requires { (length values.now ≡ 128) × (length seen.old ≡ 128) }
+fn fits_rows(sheet: &[i32], values: &[i32; CODES], seen: &mut [bool; CODES]) -> bool
     ensures fits { result ≡ fits_rows (rows sheet.now) values.now seen.old }
     ensures seen { seen.new ≡ seen_rows (rows sheet.now) seen.old }
 {
+    let (rows, _) = sheet.as_chunks::<6>();
     let mut fits = true;
-    let mut i = 0;
-    while 6 <= sheet.len() - i {
-        let next = i + 6;
-        let fit = fits_once(&sheet[i..next], values, seen);
-        fits = fits & fit;
-        i = next;
+    for row in rows {
+        fits &= fits_once(row, values, seen);
     }
     fits
 }
 
-// 128 values, each allowed by the row of its place: the first row with its code, the bench's before the maker's.
-pub fn sound_values<'a>(bench: &'a [i32], maker: &'a [i32], values: &[i32]) -> bool
-    ensures { result ≡ sound_values bench.now maker.now values.now }
-{
-    if values.len() != CODES {
-        return false;
+impl<'a> Sheets<'a> {
+    // Whether both are sound.
+    pub fn are_sound(&self) -> bool
+        ensures { result ≡ sound_sheet self.now.bench.now && sound_sheet self.now.maker.now }
+    {
+        sound_sheet(self.bench) & sound_sheet(self.maker)
     }
-    let mut seen: [u8; CODES] = [0; CODES];
-    let by_bench = fits_rows(bench, values, &mut seen);
-    let by_maker = fits_rows(maker, values, &mut seen);
-    by_bench & by_maker
+
+    // The row of an identifier, as the part of the sheet it stands in. No sheet is tested here: `lookup` and `card::check` have done
+    // so before.
+    pub fn find_row(&self, identifier: u8) -> &'a [i32]
+        ensures numbers { result.now ≡ row_of self.now.bench.now self.now.maker.now identifier }
+        ensures lies { result.ref_ptr ≡ row_lies self.now.bench.ref_ptr self.now.maker.ref_ptr self.now.bench.now self.now.maker.now identifier }
+    {
+        match place_in(self.bench, identifier) {
+            Some(start) => six(self.bench, start),
+            None => six(
+                self.maker,
+                place_in(self.maker, identifier).unwrap_or(self.maker.len()),
+            ),
+        }
+    }
+
+    // The lookup: an empty part where there is no row, or a sheet is unsound.
+    #[tactic(auto, unfolding(crate::specs::Lookup::shown, crate::specs::Lookup::shown_lies))]
+    pub fn lookup(&self, identifier: u8) -> &'a [i32]
+        ensures numbers { result.now ≡ shown self.now.bench.now self.now.maker.now identifier }
+        ensures lies { result.ref_ptr ≡ shown_lies self.now.bench.ref_ptr self.now.maker.ref_ptr self.now.bench.now self.now.maker.now identifier }
+    {
+        if self.are_sound() {
+            self.find_row(identifier)
+        } else {
+            six(self.maker, self.maker.len())
+        }
+    }
+
+    // The row of an identifier, by value.
+    #[tactic(auto, unfolding(crate::specs::Values::entry_in))]
+    pub fn find(&self, identifier: u8) -> Option<Row>
+        ensures { result ≡ entry_in self.now.bench.now self.now.maker.now identifier }
+    {
+        entry_of(self.find_row(identifier))
+    }
+
+    // Where the row of each character code starts, for an `Index`.
+    #[tactic(auto, using(crate::proofs::Marks::marked_both))]
+    pub fn places(&self) -> [usize; CODES]
+        ensures { result ≡ index_of self.now.bench.now self.now.maker.now }
+    {
+        let end = self.bench.len() + self.maker.len();
+        let mut places = [end; CODES];
+        mark(self.maker, self.bench.len(), &mut places);
+        mark(self.bench, 0, &mut places);
+        places
+    }
+
+    // The part of the two sheets that starts at a place of an index.
+    #[tactic(auto, unfolding(crate::specs::Inner::part_at))]
+    fn part_at(&self, place: usize) -> &'a [i32]
+        ensures { result.now ≡ part_at self.now.bench.now self.now.maker.now place }
+    {
+        if place < self.bench.len() {
+            return six(self.bench, place);
+        }
+        six(self.maker, place - self.bench.len())
+    }
+
+    // 128 values, each allowed by the row of its place: the first row with its code, the bench's before the maker's.
+    pub fn sound_values(&self, values: &[i32]) -> bool
+        ensures { result ≡ sound_values self.now.bench.now self.now.maker.now values.now }
+    {
+        let Some(values) = values.as_array::<CODES>() else {
+            return false;
+        };
+        let mut seen = [false; CODES];
+        let by_bench = fits_rows(self.bench, values, &mut seen);
+        let by_maker = fits_rows(self.maker, values, &mut seen);
+        by_bench & by_maker
+    }
+}
+
+impl<'a> Index<'a> {
+    // The place of an identifier; behind both sheets where the index has none.
+    fn place(&self, identifier: u8) -> usize
+        ensures { result ≡ get_or self.now.places.now identifier (length self.now.sheets.bench.now + length self.now.sheets.maker.now) }
+    {
+        match self.places.get(usize::from(identifier)) {
+            Some(place) => *place,
+            None => self.sheets.bench.len() + self.sheets.maker.len(),
+        }
+    }
+
+    // The row of an identifier, by value. Less of it is tested than in `Sheets::find`: a run has tested the sheets.
+    #[tactic(auto, unfolding(crate::specs::Inner::entry_at))]
+    pub fn find(&self, identifier: u8) -> Option<Row>
+        ensures { result ≡ entries self.now identifier }
+    {
+        entry_by(self.sheets.part_at(self.place(identifier)))
+    }
+}
+
+impl Row {
+    #[tactic(auto, unfolding(crate::specs::Values::is_readable))]
+    pub fn is_readable(self) -> bool
+        ensures { result ≡ is_readable self }
+    {
+        self.access != 3
+    }
+
+    #[tactic(auto, unfolding(crate::specs::Values::is_writable))]
+    pub fn is_writable(self) -> bool
+        ensures { result ≡ is_writable self }
+    {
+        self.access != 1
+    }
+
+    #[tactic(auto, unfolding(crate::specs::Values::is_read_write))]
+    pub fn is_read_write(self) -> bool
+        ensures { result ≡ is_read_write self }
+    {
+        self.access == 2
+    }
+
+    // A value that the row allows.
+    #[tactic(auto, unfolding(crate::specs::Values::fits_row))]
+    pub fn fits_row(self, value: i32) -> bool
+        ensures { result ≡ fits_row self value }
+    {
+        number::in_range(self.least, value, self.greatest) & number::is_multiple(value, self.step)
+    }
 }

@@ -1,5 +1,6 @@
 -- A trace by its tests: the numbers of a run, then room for the notes; a trace is a run with notes, and a note is what the single word's call
 -- answers. Assumes nothing.
+use Rattle.std.specs.Prelude.{Some}
 use mathlib.Core.Path.{◌≡◌, sym, ap, ◌∙◌}
 use mathlib.Core.Bool.{true, false, false≢true}
 use mathlib.Core.List.{List, [], ◌∷◌}
@@ -82,7 +83,7 @@ module _ (bench maker : List ℤ) (i : Instrument) (k w : ℕ) (out : List ℕ) 
       rw c (ap (λ (x : WordAnswer). record { at = k; characters = i.card.pending.len; bytes = x.bytes; cause = x.cause } ∷ []) (sym step_answers))
 
   -- and a word that closes no message is not noted, whose cause there is that none was closed
-  pub open_is_step : closes (action_of i.card.pending w) ≡ false → (note_to bench maker i k w ≡ []) × (a.cause ≡ why_of NoMessageClosed)
+  pub open_is_step : closes (action_of i.card.pending w) ≡ false → (note_to bench maker i k w ≡ []) × (a.cause ≡ why_of (Some NoMessageClosed))
   unfolding note_to
   open_is_step o =
       (rw o, ap (λ (x : WordAnswer). x.cause) step_answers ∙ why_none bench maker i.card i.values w (λ n. false≢true (sym o ∙ ap closes n)))

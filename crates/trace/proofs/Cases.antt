@@ -1,4 +1,5 @@
 -- Traces by the definitions: this file alone of trace opens those of every crate, since it computes them. Assumes nothing.
+use Rattle.card.specs.declared.Took.{Took}
 use mathlib.Core.Path.{◌≡◌, refl}
 use mathlib.Core.List.{List, [], ◌∷◌}
 use lib.Count.{ones, ones_in}
@@ -25,7 +26,6 @@ use Rattle.sheet.specs.Lookup.{code_is, row_among, place_among, row_in, place_in
 use Rattle.sheet.specs.Lookup as lookup
 use Rattle.sheet.specs.Values.{numbers_of, entry_of, entry_in, is_readable, is_readable_entry, is_writable, is_read_write, fits_row, fits_place, sound_from, sound_values}
 use Rattle.reply.specs.Reply.{longest_reply, spell_content, spell_answer}
-use Rattle.act.specs.declared.Offer.TheVariants.{Nothing}
 use Rattle.act.specs.Cause.{is_for, is_offered, standing, on_bracket, takes_zero, causes}
 use Rattle.act.specs.Act.{most_named, names_from, says, accepts, shown_by, offers, granted, turned_down, respond, act, causes_in}
 use Rattle.card.specs.declared.Card.{Card}
@@ -33,9 +33,9 @@ use Rattle.card.specs.Run.{playing}
 use Rattle.card.specs.Turn.{effect_of, turned, turn, stored}
 use Rattle.card.specs.Cause.{why_closed, why_after, why_to}
 use Rattle.card.specs.Refusals.{is_revision, sound_scan, sound_setup, sound_card, offerable, sound_offer, card_checks}
-use Rattle.card.specs.Calls.{Took}
 use Rattle.trace.specs.Notes.{fives_of, note_to, noting}
 use Rattle.trace.specs.Calls.{TraceAfter, trace_checks, trace_call}
+use Rattle.std.specs.Prelude.{None}
 
 -- a card `L7` with one row, for m: read and write, one decimal, a step of 5, 0 to 1000; m is 20
 m_row : List ℤ
@@ -43,7 +43,7 @@ m_row = pos (code "m") ∷ pos 2 ∷ pos 1 ∷ pos 5 ∷ pos 0 ∷ pos 1000 ∷ 
 
 plain_card : Card
 plain_card =
-    record { setup = record { letter = code "L"; address = 7; count = 0; scan = replicate most_named 0; revision = 1 }; pending = none; offer = Nothing }
+    record { setup = record { letter = code "L"; address = 7; count = 0; scan = replicate most_named 0; revision = 1 }; pending = none; offer = None }
 
 -- four messages behind a character that opens none: a query, one without a row, one for a neighbour, and one that isn't well formed at its `x`
 sent : List ℕ

@@ -9,8 +9,6 @@ use lib.Dec.{eqb}
 use lib.IntN.{ℤ}
 use Rattle.refusal.proofs.Logic.{by-test, choice}
 use Rattle.refusal.proofs.Lists.{Each, each_append}
-use Rattle.wire.specs.declared.Received.{Received}
-use Rattle.wire.specs.declared.Received.TheVariants.{Character, Nothing}
 use Rattle.wire.specs.Word.{received}
 use Rattle.message.specs.Message.{is_letter}
 use Rattle.hearing.specs.declared.Pending.{Pending}
@@ -23,12 +21,13 @@ use Rattle.card.specs.Turn.{Instrument, hears}
 use Rattle.card.proofs.Sounds.{card_parts, card_stays}
 use Rattle.trace.specs.Notes.{Note, note_to, noting, notes_of}
 use Rattle.trace.specs.Calls.{notes_in}
+use Rattle.std.specs.Prelude.{None, Option, Some}
 
 -- with no message open, none is closed
-opens : (r : Received) → closes (opening r) ≡ false
+opens : (r : Option ℕ) → closes (opening r) ≡ false
 unfolding opening
-opens (Character c) = choice (λ (a : Action). closes a ≡ false) (is_letter c) (λ t. refl) (λ t. refl)
-opens Nothing = refl
+opens (Some c) = choice (λ (a : Action). closes a ≡ false) (is_letter c) (λ t. refl) (λ t. refl)
+opens None = refl
 
 closing_long : (p : Pending) (w : ℕ) → closes (action_of p w) ≡ true → 1 ≤ p.len
 unfolding action_of

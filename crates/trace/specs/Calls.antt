@@ -1,4 +1,5 @@
 -- The call: a run, and what is noted of the words that it takes.
+use Rattle.card.specs.declared.Took.{Took}
 use Rattle.std.specs.Prelude.{List, [], ◌∷◌, ◌++◌, ℕ, ◌*◌, ltb, ℤ, length, take}
 use Rattle.refusal.specs.Buffer.{laid}
 use Rattle.refusal.specs.Check.{Check, refuse_if, first, decided}
@@ -6,7 +7,7 @@ use Rattle.refusal.specs.declared.Refusal.TheVariants.{RoomTooShort}
 use Rattle.card.specs.declared.Card.{Card}
 use Rattle.card.specs.Turn.{play}
 use Rattle.card.specs.Refusals.{card_checks}
-use Rattle.card.specs.Calls.{After, kept, Took, run_after, ended}
+use Rattle.card.specs.Calls.{After, kept, run_after, ended}
 use Rattle.trace.specs.declared.Traced.{Traced}
 use Rattle.trace.specs.Notes.{Note, fives_of, notes_of}
 

@@ -1,11 +1,10 @@
 // A run that notes, of every message that it closes, where and how it was answered, and why.
 #![tactic(auto)]
 
-ghost use Rattle.std.specs.Prelude.{◌≡◌, true, ◌+◌, ◌*◌, ◌≤◌, length};
-ghost use Rattle.refusal.specs.Refusal.{verdict_of};
+ghost use Rattle.refusal.specs.Refusal.{outcome_of};
+ghost use Rattle.std.specs.Prelude.{◌≡◌, ◌+◌, ◌*◌, ◌≤◌, length};
 ghost use Rattle.refusal.specs.Buffer.{placed};
 ghost use Rattle.refusal.specs.Check.{first};
-ghost use Rattle.sheet.specs.Sheet.{sound_sheet};
 ghost use Rattle.act.specs.Cause.{why_of};
 ghost use Rattle.card.specs.Turn.{play};
 ghost use Rattle.card.specs.Calls.{ended};
@@ -13,9 +12,11 @@ ghost use Rattle.trace.specs.Notes.{five_of};
 ghost use Rattle.trace.specs.Calls.{trace_checks, trace_after, noted, notes_in, trace_call};
 
 use act::causes::Cause;
-use card::{Card, Ran, RunAnswer, answering};
+use card::tested::Tested;
+use card::{Card, Ran, answering};
 use hearing::Pending;
-use refusal::{Refusal, Verdict, Written};
+use refusal::Refusal;
+use sheet::{Index, Sheets};
 
 // How many numbers a note has.
 pub const NOTE: usize = 5;
@@ -28,107 +29,118 @@ pub struct Traced {
 }
 
 // The numbers of a run in their order, then 5 where the notes have fewer than five numbers for each word.
+#[tactic(auto, using(crate::proofs::Calls::trace_refused, crate::proofs::Calls::notes_short, crate::proofs::Calls::notes_enough))]
 pub fn check<'a>(
     card: Card,
-    bench: &'a [i32],
-    maker: &'a [i32],
+    sheets: &Sheets<'a>,
     values: &[i32],
     words: &[u16],
     notes: &[u64],
-) -> Verdict
-    ensures { verdict_of result ≡ first (trace_checks card bench.now maker.now values.now words.now notes.now) }
+) -> Result<(), Refusal>
+    ensures { outcome_of result ≡ first (trace_checks card sheets.now.bench.now sheets.now.maker.now values.now words.now notes.now) }
 {
-    match card::check(card, bench, maker, values, words) {
-        Verdict::Refused(refusal) => Verdict::Refused(refusal),
-        Verdict::Passed => {
-            if notes.len() / NOTE < words.len() {
-                return Verdict::Refused(Refusal::RoomTooShort);
-            }
-            Verdict::Passed
-        }
+    card::check(card, sheets, values, words)?;
+    if notes.len() / NOTE < words.len() {
+        return Err(Refusal::RoomTooShort);
     }
+    Ok(())
 }
 
 // The numbers of a note, from a place on.
-fn put(notes: &mut [u64], from: usize, at: usize, characters: usize, bytes: usize, cause: Cause)
+#[tactic(auto, using(refusal::proofs::Buffers::copied_placed))]
+fn put(
+    notes: &mut [u64],
+    from: usize,
+    at: usize,
+    characters: usize,
+    bytes: usize,
+    cause: Option<Cause>,
+)
     requires { from + 5 ≤ length notes.old }
     ensures { notes.new ≡ placed (five_of (record { at = at; characters = characters; bytes = bytes; cause = why_of cause })) from notes.old }
 {
-    notes[from] = at as u64;
-    notes[from + 1] = characters as u64;
-    notes[from + 2] = bytes as u64;
-    notes[from + 3] = act::causes::cause_code(cause) as u64;
-    notes[from + 4] = act::causes::cause_position(cause) as u64;
+    let note = [
+        at as u64,
+        characters as u64,
+        bytes as u64,
+        act::causes::cause_code(cause) as u64,
+        act::causes::cause_position(cause) as u64,
+    ];
+    notes[from..from + NOTE].copy_from_slice(&note);
 }
 
 // The words of a trace that passed, as `card::run` takes them. A message is noted once its reply is written.
 fn take_all<'a>(
     card: Card,
-    bench: &'a [i32],
-    maker: &'a [i32],
+    tested: &Tested<'a>,
     values: &mut [i32],
     words: &[u16],
     out: &mut [u8],
     notes: &mut [u64],
 ) -> Traced
-    requires { (sound_sheet bench.now ≡ true) × (sound_sheet maker.now ≡ true) × (length words.now * 5 ≤ length notes.old) }
-    ensures { trace_after result values.new out.new notes.new ≡ noted (ended (play bench.now maker.now card values.old (length out.old) words.now) out.old) (notes_in bench.now maker.now card values.old (length out.old) words.now) notes.old }
+    requires { length words.now * 5 ≤ length notes.old }
+    ensures { trace_after result values.new out.new notes.new ≡ noted (ended (play tested.now.sheets.bench.now tested.now.sheets.maker.now card values.old (length out.old) words.now) out.old) (notes_in tested.now.sheets.bench.now tested.now.sheets.maker.now card values.old (length out.old) words.now) notes.old }
 {
-    let setup = card.setup;
-    let mut offer = card.offer;
-    let pending = card.pending;
-    let mut chars = pending.chars;
-    let mut halt = hearing::to_close(&mut chars, pending.len, words, 0);
-    let index = sheet::index(bench, maker);
-    let places = &index[..];
+    let Card {
+        setup,
+        mut pending,
+        mut offer,
+    } = card;
+    let mut taken = pending.to_close(words, 0);
+    let places = tested.sheets.places();
+    let index = Index {
+        sheets: tested.sheets,
+        places: &places,
+    };
     let mut at = 0;
     let mut messages = 0;
-    while halt.at < words.len() {
-        let parsed = hearing::closed(&chars, halt.len);
-        let open = Pending {
-            chars,
-            len: halt.len,
-        };
-        let cause = answering::cause_by(setup, offer, bench, maker, places, values, open, parsed);
-        let effect = if answering::is_scan(parsed) {
-            answering::scan_effect(setup, offer, bench, maker, places, values, parsed)
+    // No `for`, and the choice at each caller, as in `card::answering::take_all`.
+    while taken < words.len() {
+        let message = pending.close();
+        let cause = answering::cause_by(setup, offer, &index, values, &pending, message);
+        let effect = if answering::is_scan(message) {
+            answering::scan_effect(setup, offer, &index, values, message)
         } else {
-            answering::effect_of(setup, offer, bench, maker, places, values, parsed)
+            answering::effect_of(setup, offer, &index, values, message)
         };
-        let Written::Wrote(n) = answering::settle(effect, values, out, at) else {
-            let ran = answering::so_far(setup, offer, chars, halt, at);
+        let Ok(n) = answering::settle(effect, values, out, at) else {
+            let ran = answering::so_far(setup, offer, pending, taken, at);
             return Traced { ran, messages };
         };
-        put(notes, messages * NOTE, halt.at, halt.len, n, cause);
+        put(notes, messages * NOTE, taken, pending.len, n, cause);
         offer = effect.offer;
-        chars = [0u8; hearing::MOST];
-        halt = hearing::to_close(&mut chars, 0, words, halt.at + 1);
+        pending = Pending::new();
+        taken = pending.to_close(words, taken + 1);
         at += n;
         messages += 1;
     }
-    let ran = answering::so_far(setup, offer, chars, halt, at);
+    let ran = answering::so_far(setup, offer, pending, taken, at);
     Traced { ran, messages }
 }
 
 // Words one after the other, until all are taken or the next reply no longer fits; and of each that closes a message a note.
+#[tactic(auto, using(crate::proofs::Calls::call_refused, crate::proofs::Calls::call_served))]
 pub fn trace<'a>(
     card: Card,
-    bench: &'a [i32],
-    maker: &'a [i32],
+    sheets: &Sheets<'a>,
     values: &mut [i32],
     words: &[u16],
     out: &mut [u8],
     notes: &mut [u64],
 ) -> Traced
-    ensures { trace_after result values.new out.new notes.new ≡ trace_call card bench.now maker.now values.old words.now out.old notes.old }
+    ensures { trace_after result values.new out.new notes.new ≡ trace_call card sheets.now.bench.now sheets.now.maker.now values.old words.now out.old notes.old }
 {
-    match check(card, bench, maker, values, words, notes) {
-        Verdict::Refused(refusal) => {
-            let answer = RunAnswer::Refused(refusal);
-            let ran = Ran { card, answer };
-            let messages = 0;
-            Traced { ran, messages }
+    match check(card, sheets, values, words, notes) {
+        Err(refusal) => {
+            let ran = Ran {
+                card,
+                answer: Err(refusal),
+            };
+            Traced { ran, messages: 0 }
         }
-        Verdict::Passed => take_all(card, bench, maker, values, words, out, notes),
+        Ok(()) => {
+            let tested = Tested { sheets: *sheets };
+            take_all(card, &tested, values, words, out, notes)
+        }
     }
 }

@@ -1,14 +1,17 @@
 -- A line built one character after the other holds those characters. Assumes nothing.
 use mathlib.Core.Path.{◌≡◌, refl, sym, ap, ◌∙◌, subst}
 use mathlib.Core.List.{List, [], ◌∷◌, ◌++◌, append-nil, append_assoc}
-use Prim.Native.Nat.{ℕ, suc, ◌+◌, ◌<◌, ◌≤◌}
+use Prim.Native.Nat.{ℕ, suc, ◌+◌, ◌<◌, ◌≤◌, min}
 use native.Mathlib.Numerals.{add-one}
 use native.Mathlib.Omega.{arith}
 use borrow.Author.Tests.{lt-ltb}
-use lib.ListN.{length, get_or, take, drop, set, replicate, length-append, length-take, take-append-drop, drop_of_length-le}
+use lib.ListN.{length, get_or, take, drop, set, replicate, length-append, length-take, take-append-drop}
 use lib.Seq.{drop-cons, set_at, append_snoc, take-append_seam}
 use Rattle.refusal.specs.Buffer.{laid}
+use Rattle.refusal.specs.Call.{Call, writes, place_call}
 use Rattle.refusal.proofs.Buffers.{laid_length}
+use Rattle.refusal.proofs.Calls.{placed_writes}
+use Rattle.std.specs.List.{fold}
 use Rattle.wire.specs.Word.{with_parity, travelling}
 use Rattle.wire.specs.Inner.{longest_message, empty, put, puts, line_of, bytes_of}
 use Rattle.wire.specs.declared.Line.{Line}
@@ -55,14 +58,14 @@ unfolding puts
 puts_append l [] ds = refl
 puts_append l (c ∷ cs) ds = puts_append (put l c) cs ds
 
--- from an index on
-pub puts_more : (l : Line) (cs : List ℕ) (i : ℕ) → i < length cs → puts l (drop i cs) ≡ puts (put l (get_or cs i 0)) (drop (i + 1) cs)
+-- the same as a fold
+fold_puts : (l : Line) (cs : List ℕ) → fold put l cs ≡ puts l cs
 unfolding puts
-puts_more l cs i h = rw (add-one, drop-cons cs i 0 h)
+fold_puts l [] = refl
+fold_puts l (c ∷ cs) = fold_puts (put l c) cs
 
-pub puts_done : (l : Line) (cs : List ℕ) (i : ℕ) → length cs ≤ i → puts l (drop i cs) ≡ l
-unfolding puts
-puts_done l cs i h = rw (drop_of_length-le cs h)
+pub puts_fold : (l : Line) (cs : List ℕ) (m : Line) → m ≡ fold put l cs → m ≡ puts l cs
+puts_fold l cs m e = e ∙ fold_puts l cs
 
 -- the bytes of a line
 pub line_bytes : (cs : List ℕ) → bytes_of (line_of cs) ≡ travelling cs
@@ -90,6 +93,19 @@ line_fits l cs e h =
 pub take_counted : (n : ℕ) (xs : List ℕ) → take (length (take n xs)) xs ≡ take n xs
 take_counted n xs = ap (λ (l : List ℕ). take (length (take n xs)) l) (sym (take-append-drop n xs)) ∙ take-append_seam (take n xs) (drop n xs)
 
-pub bytes_fit : (l : Line) → length (bytes_of l) ≤ length l.bytes
+-- how many, as the code has it: eleven bytes, and `len` of them
+pub bytes_count : (l : Line) → length l.bytes ≡ longest_message → min l.len longest_message ≡ length (bytes_of l)
 unfolding bytes_of
-bytes_fit l = omega (arith, length-take l.len l.bytes)
+bytes_count l e = omega (arith, length-take l.len l.bytes)
+
+pub counted_within : (l : Line) (n : ℕ) → n ≡ length (bytes_of l) → n ≤ length l.bytes
+unfolding bytes_of
+counted_within l n e = omega (arith, length-take l.len l.bytes)
+
+-- what is placed at the front of a buffer is what the line holds
+pub counted_written : (l : Line) (n : ℕ) (out : List ℕ) (c : Call) → n ≡ length (bytes_of l) → c ≡ place_call (take n l.bytes) 0 out → c ≡ writes [] (bytes_of l) out
+unfolding bytes_of
+counted_written l n out c e p =
+    p
+    ∙ ap (λ (xs : List ℕ). place_call xs 0 out) (ap (λ (k : ℕ). take k l.bytes) e ∙ take_counted l.len l.bytes)
+    ∙ placed_writes (bytes_of l) out

@@ -1,7 +1,7 @@
 -- The laws of parity, at all bytes at once: each is one test that antt computes at every number below 128 or 256.
 -- And words that may be lent. Assumes nothing.
-use mathlib.Core.Path.{◌≡◌, refl, sym, ap}
-use mathlib.Core.Bool.{Bool, true, false, ◌&&◌, false≢true}
+use mathlib.Core.Path.{◌≡◌, refl, sym, ap, ◌∙◌}
+use mathlib.Core.Bool.{Bool, true, false, ◌&&◌, false≢true, and_assoc, and-true}
 use mathlib.Core.List.{List, [], ◌∷◌, ◌++◌}
 use Prim.Native.Nat.{ℕ, ◌%◌, ◌<◌, ◌≤◌}
 use Prim.Native.Char.{code}
@@ -14,26 +14,26 @@ use Rattle.refusal.proofs.Logic.{ands, and_left, and_right, choice, below, all_b
 use Rattle.refusal.specs.Lists.{every}
 use Rattle.refusal.proofs.Lists.{every_none, every_first, every_both, every_append}
 use Rattle.refusal.proofs.Longer.{SameOrLonger, longer_map}
+use Rattle.std.specs.List.{fold}
 use Rattle.wire.specs.Word.{even_parity, with_parity, received, travelling, valid_words}
-use Rattle.wire.specs.declared.Received.{Received}
-use Rattle.wire.specs.declared.Received.TheVariants.{Character, Nothing}
+use Rattle.std.specs.Prelude.{None, Option, Some}
 
 -- ---- a character travels
 
-is : Received → ℕ → Bool
-is (Character d) c = eqb d c
-is Nothing c = false
+is : Option ℕ → ℕ → Bool
+is (Some d) c = eqb d c
+is None c = false
 
-is_character : (o : Received) (c : ℕ) → is o c ≡ true → o ≡ Character c
+is_character : (o : Option ℕ) (c : ℕ) → is o c ≡ true → o ≡ Some c
 unfolding is
-is_character (Character d) c e = ap Character (eqb-true d c e)
-is_character Nothing c e = absurd (false≢true e)
+is_character (Some d) c e = ap Some (eqb-true d c e)
+is_character None c e = absurd (false≢true e)
 
 readable : ℕ → Bool
 readable c = is (received (with_parity c)) c
 
 -- a character is read back from the byte written for it
-pub travels : (c : ℕ) → c < 128 → received (with_parity c) ≡ Character c
+pub travels : (c : ℕ) → c < 128 → received (with_parity c) ≡ Some c
 unfolding ones ones_in even_parity received with_parity is readable
 travels c h = is_character (received (with_parity c)) c (below 128 readable refl c h)
 
@@ -53,9 +53,9 @@ unfolding ones ones_in even_parity with_parity
 written_even c h = below 256 (λ (c : ℕ). even_parity (with_parity c)) refl c h
 
 -- nothing but a character's own byte is read as it
-back : Received → ℕ → Bool
-back (Character c) w = eqb (with_parity c) w
-back Nothing w = true
+back : Option ℕ → ℕ → Bool
+back (Some c) w = eqb (with_parity c) w
+back None w = true
 
 written : ℕ → Bool
 written w = back (received w) w
@@ -65,19 +65,19 @@ unfolding ones ones_in even_parity received with_parity back written
 all_written = refl
 
 -- a word that carries a character is a byte, and the character has seven bits
-carried : (w c : ℕ) → received w ≡ Character c → (w < 256) × (c < 128)
+carried : (w c : ℕ) → received w ≡ Some c → (w < 256) × (c < 128)
 unfolding received
 carried w c e =
-    choice (λ (o : Received). o ≡ Character c → (w < 256) × (c < 128)) (ltb w 256 && even_parity w)
+    choice (λ (o : Option ℕ). o ≡ Some c → (w < 256) × (c < 128)) (ltb w 256 && even_parity w)
     (λ t q. let k : w % 128 ≡ c = cc in (ltb-true w 256 (search ands), omega arith)) (λ t q. absurd (never q)) e
   where
-    never : Nothing ≡ Character c → ⊥
+    never : None ≡ Some c → ⊥
     never q = let z : ◌≡◌ {A = ℕ} 0 1 = cc in omega arith
 
-pub received_small : (w c : ℕ) → received w ≡ Character c → c < 128
+pub received_small : (w c : ℕ) → received w ≡ Some c → c < 128
 received_small w c e = (carried w c e).1
 
-pub only_word : (w c : ℕ) → received w ≡ Character c → w ≡ with_parity c
+pub only_word : (w c : ℕ) → received w ≡ Some c → w ≡ with_parity c
 unfolding written back
 only_word w c e =
     let t : written w ≡ true = below 256 written all_written w (carried w c e).0 in
@@ -127,6 +127,15 @@ travelling_longer h = longer_map with_parity h
 pub no_words_valid : valid_words [] ≡ true
 unfolding valid_words
 no_words_valid = every_none (λ (w : ℕ). leb w 256)
+
+-- what a fold over all of them comes to, with no early way out
+fold_valid : (so : Bool) (ws : List ℕ) → fold (λ (b : Bool) (w : ℕ). b && leb w 256) so ws ≡ so && valid_words ws
+unfolding valid_words every
+fold_valid so [] = sym (and-true so)
+fold_valid so (w ∷ ws) = fold_valid (so && leb w 256) ws ∙ and_assoc so (leb w 256) (valid_words ws)
+
+pub valid_fold : (ws : List ℕ) (so : Bool) → so ≡ fold (λ (b : Bool) (w : ℕ). b && leb w 256) true ws → so ≡ valid_words ws
+valid_fold ws so e = e ∙ fold_valid true ws
 
 pub word_valid : (w : ℕ) → w ≤ 256 → valid_words (w ∷ []) ≡ true
 unfolding valid_words

@@ -3,8 +3,7 @@
 use Rattle.std.specs.Prelude.{Bool, cond, ◌&&◌, List, map, ℕ, ◌+◌, ◌*◌, ◌%◌, ltb, leb, eqb}
 use Rattle.std.specs.Int.Count.{ones}
 use Rattle.refusal.specs.Lists.{every}
-use Rattle.wire.specs.declared.Received.{Received}
-use Rattle.wire.specs.declared.Received.TheVariants.{Character, Nothing}
+use Rattle.std.specs.Prelude.{None, Option, Some}
 
 -- document 01: "the number of ones in all eight bits is even"
 unfoldable pub even_parity : ℕ → Bool
@@ -15,8 +14,8 @@ unfoldable pub with_parity : ℕ → ℕ
 with_parity c = c % 128 + 128 * (ones (c % 128) % 2)
 
 -- the character that a word carries: none for a silence and for a byte in bad parity
-unfoldable pub received : ℕ → Received
-received w = cond (ltb w 256 && even_parity w) (Character (w % 128)) Nothing
+unfoldable pub received : ℕ → Option ℕ
+received w = cond (ltb w 256 && even_parity w) (Some (w % 128)) None
 
 -- characters as they travel
 unfoldable pub travelling : List ℕ → List ℕ

@@ -1,20 +1,14 @@
--- `abi::answer_row` meets its contract: the row by how many numbers there are. Assumes nothing.
-use mathlib.Core.Path.{sym, ◌∙◌}
-use Rattle.abi.specs.Rows.{pairs, answer_row}
+-- `abi::answer_row` meets its contract: five bytes, widened, then each number with its decimals. Assumes nothing.
+use mathlib.Core.Path.{refl, ◌∙◌}
+use borrow.Author.Rules.{rules}
+use mathlib.Core.List.{[]}
+use lib.IntN.{pos}
+use Rattle.models.proofs.Maps.{map_same}
+use Rattle.abi.proofs.Answers.{pair_of, row_is}
 use Rattle.abi.proofs.answer_row.Goals as goal
 
-pub returns-in-Empty : goal.returns-in-Empty
-unfolding answer_row pairs
-returns-in-Empty c = c.answer_numbers.ensures ∙ sym (rw c.in-Empty.is)
-
-pub returns-in-Number : goal.returns-in-Number
-unfolding answer_row pairs
-returns-in-Number c = c.answer_numbers-in-Number.ensures ∙ sym (rw c.in-Number.is)
-
-pub returns-in-Four : goal.returns-in-Four
-unfolding answer_row pairs
-returns-in-Four c = c.answer_numbers-in-Four.ensures ∙ sym (rw c.in-Four.is)
-
-pub returns-in-Five : goal.returns-in-Five
-unfolding answer_row pairs
-returns-in-Five c = c.answer_numbers-in-Five.ensures ∙ sym (rw c.in-Five.is)
+pub returns : goal.returns
+returns c =
+    let five = map_same pos 0 (pos 0) _ _ _ _ _ c.map.ensures.items refl (λ p x y q k. search rules) in
+    let each = map_same pair_of (record { number = pos 0; decimals = 0 }) [] _ _ _ _ _ c.map-2.ensures.items (search rules) (λ p x y q k. search rules) in
+    row_is c.args.answer c.mark_of.result c.five_of-count.result _ _ _ c.mark_of.ensures c.five_of-count.ensures (c.copy_from_slice.ensures.after ∙ five) each (c.copy_from_slice-2.ensures.after ∙ c.as_flattened.ensures.value)

@@ -1,37 +1,25 @@
--- `card::sound_scan` meets its contract: the tests are the definition's, by the count. Assumes nothing.
-use mathlib.Core.Path.{◌≡◌, sym, ap₂, ◌∙◌}
-use mathlib.Core.Bool.{Bool, ◌&&◌, ◌||◌}
-use mathlib.Core.List.{List}
-use lib.IntN.{ℤ}
+-- `card::sound_scan` meets its contract: behind the two tests each name is judged. Assumes nothing.
+use mathlib.Core.Path.{◌≡◌, sym, ◌∙◌}
+use mathlib.Core.Bool.{true, ◌||◌}
+use Prim.Native.Nat.{ℕ}
 use native.Mathlib.Omega.{arith}
-use Rattle.refusal.specs.Lists.{every}
-use Rattle.sheet.specs.Lookup.{has_row}
-use Rattle.reply.specs.Reply.{scan_identifier}
-use Rattle.act.specs.Act.{names_from}
-use Rattle.card.specs.Refusals.{sound_scan}
+use borrow.Author.Rules.{rules}
+use borrow.Author.Tests.{tests}
+use lib.Dec.{eqb}
+use lib.ListN.{take}
+use Rattle.std.proofs.lemmas.Iterator.{YieldsList-from_slice}
+use Rattle.std.proofs.lemmas.Iterator.Search.{all_from_yields_List}
+use Rattle.sheet.specs.Values.{entry_in, is_readable_entry}
+use Rattle.card.proofs.Scans.{by_names}
 use Rattle.card.proofs.sound_scan.Goals as goal
-
--- whether `]` has a row
-rows : (bench maker : List ℤ) (x y : Bool) → x ≡ has_row bench scan_identifier → y ≡ has_row maker scan_identifier
-    → (has_row bench scan_identifier || has_row maker scan_identifier) ≡ (x || y)
-rows bench maker x y e f = sym (ap₂ (λ (a b : Bool). a || b) e f)
-
-pub returns-then-has_row : goal.returns-then-has_row
-unfolding sound_scan
-returns-then-has_row c = sym (rw (rows _ _ _ _ c.has_row.ensures c.has_row-2.ensures ∙ c.if-has_row.true))
-
-pub returns-then-setup-eq0 : goal.returns-then-setup-eq0
-unfolding sound_scan names_from every
-returns-then-setup-eq0 c = sym (rw (rows _ _ _ _ c.has_row.ensures c.has_row-2.ensures ∙ c.if-has_row.false, c.if-setup-eq0.true))
-
-pub returns-then-setup-eq4 : goal.returns-then-setup-eq4
-unfolding sound_scan names_from
-returns-then-setup-eq4 c =
-    c.four_readable.ensures ∙ sym (rw (rows _ _ _ _ c.has_row.ensures c.has_row-2.ensures ∙ c.if-has_row.false, c.if-setup-eq4.true))
+use Rattle.card.proofs.sound_scan.Goals.{in_default, in_default-2, in-0, in-0-2}
 
 pub returns : goal.returns
-unfolding sound_scan names_from every
 returns c =
-    let five : c.args.setup.count ≡ 5 = grind arith in
-    ap₂ (λ (x y : Bool). x && y) c.has_readable_row.ensures c.four_readable-2.ensures
-    ∙ sym (rw (rows _ _ _ _ c.has_row.ensures c.has_row-2.ensures ∙ c.if-has_row.false, five))
+    let s = c.args.setup in
+    let bench = c.args.sheets.now.bench.now in
+    let maker = c.args.sheets.now.maker.now in
+    let counts : (eqb s.count 0 || eqb s.count 4 || eqb s.count 5) ≡ true
+    = grind arith in
+    let each = all_from_yields_List (λ (i : ℕ). is_readable_entry (entry_in bench maker i)) _ _ c.all.result c.all.ensures.ran (YieldsList-from_slice (take s.count s.scan) cc) (λ x b q k. search (rules, tests)) in
+    each ∙ sym (by_names bench maker s (search rules) counts (search rules))

@@ -1,42 +1,30 @@
--- `hearing::to_letter` meets its contract. The loop's invariant: the next letter from here is the next from the start. Assumes nothing.
-use mathlib.Core.Path.{refl, sym, ◌∙◌}
+-- `hearing::to_letter` meets its contract: `position` finds the first word that opens a message. Assumes nothing.
+use mathlib.Core.Path.{◌≡◌, sym, ap, ◌∙◌}
+use mathlib.Core.List.{List}
+use Prim.Native.Nat.{ℕ, ◌-◌}
 use native.Mathlib.Omega.{arith}
-use Rattle.hearing.proofs.Spans.{letter_end, letter_here, letter_on}
+use lib.ListN.{length, take, drop, length-drop}
+use Rattle.std.specs.Prelude.{Option}
+use Rattle.std.proofs.Common.{rules, tests}
+use Rattle.std.proofs.lemmas.Iterator.{YieldsList-from_slice}
+use Rattle.std.proofs.lemmas.Iterator.Search.{position_from_yields_List}
+use Rattle.std.specs.List.{position}
+use Rattle.hearing.proofs.Spans.{opens, letter_found, letter_none, part_whole}
 use Rattle.hearing.proofs.to_letter.Goals as goal
 
-pub loop-at-init : goal.loop-at-init
-loop-at-init c = refl
+-- what `position` answers for the part that it goes over
+ahead : (ws : List ℕ) (from : ℕ) (r : Option ℕ) → r ≡ position opens (take (length ws - from) (drop from ws)) → r ≡ position opens (drop from ws)
+ahead ws from r e = e ∙ ap (position opens) (part_whole ws from)
 
-pub offset_bounds-words-at : goal.offset_bounds-words-at
-offset_bounds-words-at c = omega arith
+pub returns-in-Some : goal.returns-in-Some
+returns-in-Some c =
+    let a = c.args in
+    let r = position_from_yields_List opens _ _ c.position.result c.position.ensures.ran (YieldsList-from_slice (take (length a.words.now - a.from) (drop a.from a.words.now)) cc) (λ x b q k. search (rules, tests)) in
+    letter_found (drop a.from a.words.now) a.from c.in-Some.i (sym (ahead a.words.now a.from c.position.result r) ∙ c.in-Some.is)
 
-pub bounds-words-at : goal.bounds-words-at
-bounds-words-at c = omega arith
-
-pub is_opening-requires : goal.is_opening-requires
-is_opening-requires c = tt
-
-pub overflow_add-at : goal.overflow_add-at
-overflow_add-at c = omega arith
-
-pub loop-at-smaller : goal.loop-at-smaller
-loop-at-smaller c = omega arith
-
-pub loop-at-preserved : goal.loop-at-preserved
-loop-at-preserved c =
-    let o = c.before in
-    let n = o.before.before in
-    let l = n.before in
-    sym (letter_on l.before.before.args.words.now l.loop-at.at n.loop-at-test.true (sym o.is_opening.ensures ∙ c.if-is_opening.false)) ∙ l.loop-at.invariant
-
-pub returns-after-loop-at : goal.returns-after-loop-at
-returns-after-loop-at c =
-    let l = c.before in
-    sym (letter_end l.before.before.args.words.now l.loop-at.at c.loop-at-test.false) ∙ l.loop-at.invariant
-
-pub returns-then-is_opening : goal.returns-then-is_opening
-returns-then-is_opening c =
-    let o = c.before in
-    let n = o.before.before in
-    let l = n.before in
-    sym (letter_here l.before.before.args.words.now l.loop-at.at n.loop-at-test.true (sym o.is_opening.ensures ∙ c.if-is_opening.true)) ∙ l.loop-at.invariant
+pub returns-in-None : goal.returns-in-None
+returns-in-None c =
+    let a = c.args in
+    let r = position_from_yields_List opens _ _ c.position.result c.position.ensures.ran (YieldsList-from_slice (take (length a.words.now - a.from) (drop a.from a.words.now)) cc) (λ x b q k. search (rules, tests)) in
+    let n = letter_none (drop a.from a.words.now) a.from (sym (ahead a.words.now a.from c.position.result r) ∙ c.in-None.is) in
+    omega (arith, n, length-drop a.from a.words.now, c.requires)

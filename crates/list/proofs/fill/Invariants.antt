@@ -1,5 +1,5 @@
--- `list::fill` meets its contract. The loop's invariant: the buffer is as long as it was, and what was read lies in it. The measure
--- is the room that is left: a read that adds nothing ends the loop. Assumes nothing.
+-- `list::fill` meets its contract. The loop's invariant: what was read lies in the buffer. The measure is the room that is left: a read
+-- that adds nothing ends the loop. Assumes nothing.
 use Prim.Native.Nat.{◌≤◌, ◌-◌}
 use lib.ListN.{length}
 use Rattle.list.proofs.fill.Given as goal

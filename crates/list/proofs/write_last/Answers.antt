@@ -6,17 +6,17 @@ use Rattle.refusal.proofs.Placing.{wrote_within}
 use Rattle.list.proofs.Rooms.{in_part, in_changed}
 use Rattle.list.proofs.write_last.Goals as goal
 
-pub overflow_add-end : goal.overflow_add-end
-overflow_add-end g c =
-    let f = wrote_within _ _ c.last.result c.in-Wrote.n c.last.ensures c.in-Wrote.is in
-    omega (arith, in_part c.args.used c.in-Wrote.n c.args.out.now c.requires f)
+pub overflow_add-used : goal.overflow_add-used
+overflow_add-used g c =
+    let f = wrote_within _ _ c.last.result c.in-Ok.n c.last.ensures c.in-Ok.is in
+    omega (arith, in_part c.args.used c.in-Ok.n c.args.out.now c.requires f)
 
 pub slice_bounds-flush-end : goal.slice_bounds-flush-end
 slice_bounds-flush-end g c =
-    let f = wrote_within _ _ c.last.result c.in-Wrote.n c.last.ensures c.in-Wrote.is in
-    in_changed c.args.used c.in-Wrote.n c.args.out.now c.requires f c.last.new.out c.last.auto.out
+    let f = wrote_within _ _ c.last.result c.in-Ok.n c.last.ensures c.in-Ok.is in
+    in_changed c.args.used c.in-Ok.n c.args.out.now c.requires f c.last.new.out c.last.auto.out
 
-pub slice_bounds-flush-end-2 : goal.slice_bounds-flush-end-2
-slice_bounds-flush-end-2 g c =
-    let f = wrote_within _ _ c.last.result c.in-Wrote.n c.last.ensures c.in-Wrote.is in
-    sym (length-take-le _ _ (in_changed c.args.used c.in-Wrote.n c.args.out.now c.requires f c.last.new.out c.last.auto.out))
+pub slice_bounds-flush-end-in-Ok : goal.slice_bounds-flush-end-in-Ok
+slice_bounds-flush-end-in-Ok g c =
+    let f = wrote_within _ _ c.last.result c.in-Ok.n c.last.ensures c.in-Ok.is in
+    sym (length-take-le _ _ (in_changed c.args.used c.in-Ok.n c.args.out.now c.requires f c.last.new.out c.last.auto.out))

@@ -1,5 +1,17 @@
--- `models::udi1500` meets its contract: `indicator` gives the table, and `put_rows` lays its rows out. Assumes nothing.
+-- `models::udi1500` meets its contract: the letter, the lines and the scan are those of the definition. Assumes nothing.
+use mathlib.Core.Path.{refl}
+use native.Mathlib.Omega.{arith}
+use Rattle.number.specs.Number.{in_range}
+use Rattle.models.specs.Table.{are_codes}
+use Rattle.models.specs.Udi1500.{udi1500}
+use Rattle.models.specs.Scans.{udi1500_scan, padded}
+use Rattle.models.specs.Model.{indicator}
 use Rattle.models.proofs.udi1500.Goals as goal
 
+pub invariant_of-result : goal.invariant_of-result
+unfolding are_codes in_range padded
+invariant_of-result c = (omega arith, refl, refl, refl)
+
 pub returns : goal.returns
-returns c = rw c.before.before.before.before.indicator-table.ensures at c.before.put_rows.ensures
+unfolding indicator udi1500 udi1500_scan
+returns c = refl

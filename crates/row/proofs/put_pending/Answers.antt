@@ -1,24 +1,22 @@
 -- `row::put_pending` meets its contract: the count, and the characters behind it. Assumes nothing.
-use mathlib.Core.Path.{ap, ◌∙◌}
-use mathlib.Core.List.{map}
-use lib.IntN.{ℤ, pos}
-use lib.ListN.{set, length-set}
-use lib.Seq.{lt-length-set}
+use Rattle.std.proofs.Common.{rules, tests, ◌≡◌, ℤ, pos, map, ap, sym, ◌∙◌}
+use lib.ListN.{length, set, length-map}
 use Rattle.refusal.specs.Buffer.{placed}
+use Rattle.refusal.proofs.Buffers.{copied_placed}
 use Rattle.number.proofs.Signed.{rd_ok}
+use Rattle.row.proofs.Arrays.{mapped}
 use Rattle.row.proofs.Laws.{pending_placed}
 use Rattle.row.proofs.put_pending.Goals as goal
 
-pub put_chars-requires : goal.put_chars-requires
-put_chars-requires c = lt-length-set c.before.before.args.row.now _ _ {i = 12} c.before.before.requires
-
-pub shape_of-row : goal.shape_of-row
-shape_of-row c = c.put_chars.auto.row ∙ length-set c.before.before.before.before.args.row.now _ _
-
 pub returns : goal.returns
 returns c =
-    let n = c.before.before.before in
-    let a = n.before.args in
-    c.before.put_chars.ensures
-    ∙ ap (λ (z : ℤ). placed (map pos a.pending.chars) 3 (set a.row.now 2 z)) (rd_ok n.open_count.result n.open_count.type_inv ∙ n.open_count.ensures)
-    ∙ pending_placed a.pending a.row.now n.before.requires
+    let p = c.args.pending in
+    let row = c.args.row.now in
+    let chars = map pos p.chars in
+    let long : length p.chars ≡ 10 = search rules in
+    let ten : length chars ≡ 10 = length-map p.chars pos ∙ long in
+    let e : c.map.result ≡ chars = mapped _ pos p.chars _ _ 10 c.map.ensures.items (λ x b q k. search (rules, tests)) 0 long in
+    let count = rd_ok c.open_count.result c.open_count.type_inv ∙ c.open_count.ensures in
+    copied_placed chars 3 10 _ _ (c.copy_from_slice.ensures.after ∙ e) (sym ten)
+    ∙ ap (λ (z : ℤ). placed chars 3 (set row 2 z)) count
+    ∙ pending_placed p row c.requires

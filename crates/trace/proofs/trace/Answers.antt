@@ -1,23 +1,20 @@
--- `trace::trace` meets its contract: a refused trace leaves everything, and a served one is a run with its notes. Assumes nothing.
+-- `trace::trace` meets its contract: the sheets of a trace that passed are sound, and there is room for its notes. Assumes nothing.
+use Rattle.refusal.specs.Refusal.{outcome_of}
 use mathlib.Core.Path.{sym, ap, ◌∙◌}
-use Rattle.refusal.specs.Refusal.{verdict_of}
 use Rattle.card.proofs.Steps.{sheets_passed}
-use Rattle.trace.proofs.Calls.{trace_passed, call_refused, call_served}
+use Rattle.trace.proofs.Calls.{trace_passed}
 use Rattle.trace.proofs.trace.Goals as goal
+
+pub invariant_of-tested : goal.invariant_of-tested
+invariant_of-tested c =
+    let a = c.args in
+    let h = a.sheets.now in
+    let p = trace_passed a.card h.bench.now h.maker.now a.values.now a.words.now a.notes.now (sym c.check.ensures ∙ ap outcome_of c.in-Ok.is) in
+    let s = sheets_passed a.card h.bench.now h.maker.now a.values.now a.words.now p.0 in
+    record { bench_sound = s.0; maker_sound = s.1 }
 
 pub take_all-requires : goal.take_all-requires
 take_all-requires c =
     let a = c.args in
-    let p = trace_passed a.card a.bench.now a.maker.now a.values.now a.words.now a.notes.now (sym c.check.ensures ∙ ap verdict_of c.in-Passed.is) in
-    let s = sheets_passed a.card a.bench.now a.maker.now a.values.now a.words.now p.0 in
-    (s.0, s.1, p.1)
-
-pub returns-in-Refused : goal.returns-in-Refused
-returns-in-Refused c =
-    let a = c.args in
-    sym (call_refused a.card a.bench.now a.maker.now a.values.now a.words.now a.notes.now a.out.now _ (sym c.check.ensures ∙ ap verdict_of c.in-Refused.is))
-
-pub returns-in-Passed : goal.returns-in-Passed
-returns-in-Passed c =
-    let a = c.args in
-    c.take_all.ensures ∙ sym (call_served a.card a.bench.now a.maker.now a.values.now a.words.now a.notes.now a.out.now (sym c.check.ensures ∙ ap verdict_of c.in-Passed.is))
+    let h = a.sheets.now in
+    (trace_passed a.card h.bench.now h.maker.now a.values.now a.words.now a.notes.now (sym c.check.ensures ∙ ap outcome_of c.in-Ok.is)).1

@@ -1,40 +1,17 @@
--- `bus::are_apart` meets its contract. The loop's invariant: the rest decides. Assumes nothing.
-use mathlib.Core.Path.{refl, sym, ◌∙◌}
-use Prim.Native.Nat.{◌≤◌}
-use native.Mathlib.Omega.{arith}
-use lib.ListN.{length}
-use Rattle.bus.proofs.Apart.{apart_more, apart_fails, apart_ends}
+-- `bus::are_apart` meets its contract: each is held against those behind it. Assumes nothing.
+use mathlib.Core.Path.{sym, ap, ◌∙◌}
+use Rattle.bus.specs.Refusals.{apart}
+use Rattle.bus.proofs.Apart.{apart_fails, apart_more, apart_none}
 use Rattle.bus.proofs.pair.are_apart.Goals as goal
-
-pub loop-i-init : goal.loop-i-init
-loop-i-init c = refl
-
-pub offset_bounds-setups-i : goal.offset_bounds-setups-i
-offset_bounds-setups-i c = omega arith
-
-pub bounds-setups-i : goal.bounds-setups-i
-bounds-setups-i c = omega arith
-
-pub overflow_add-i : goal.overflow_add-i
-overflow_add-i c = omega arith
-
-pub overflow_add-i-in-loop-i : goal.overflow_add-i-in-loop-i
-overflow_add-i-in-loop-i c = omega arith
-
-pub loop-i-smaller : goal.loop-i-smaller
-loop-i-smaller c = omega arith
 
 pub returns-then-not-differs : goal.returns-then-not-differs
 returns-then-not-differs c =
-    let enough : c.args.count ≤ length c.args.setups = omega arith in
-    apart_fails c.args.setups c.args.count enough c.loop-i.invariant _ c.loop-i-test.true (sym c.differs.ensures ∙ c.if-not-differs.true)
+    sym (c.loop-setup.invariant ∙ ap apart c.in-Some.ensures.cases.0 ∙ apart_fails c.in-Some.setup.now c.in-Some.others.now (sym c.differs.ensures ∙ c.if-not-differs.true))
 
-pub loop-i-preserved : goal.loop-i-preserved
-loop-i-preserved c =
-    let enough : c.args.count ≤ length c.args.setups = omega arith in
-    apart_more c.args.setups c.args.count enough c.loop-i.invariant _ c.loop-i-test.true (sym c.differs.ensures ∙ c.if-not-differs.false)
+pub loop-setup-preserved : goal.loop-setup-preserved
+loop-setup-preserved c =
+    c.loop-setup.invariant ∙ ap apart c.in-Some.ensures.cases.0 ∙ apart_more c.in-Some.setup.now c.in-Some.others.now (sym c.differs.ensures ∙ c.if-not-differs.false)
 
 pub returns : goal.returns
 returns c =
-    let enough : c.args.count ≤ length c.args.setups = omega arith in
-    apart_ends c.args.setups c.args.count enough c.loop-i.invariant c.loop-i-test.false
+    sym (c.loop-setup.invariant ∙ apart_none c.loop-setup.left.now c.in_default.ensures.cases)

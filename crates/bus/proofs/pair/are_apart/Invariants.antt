@@ -1,12 +1,11 @@
--- `bus::are_apart` meets its contract. The loop's invariant: the rest decides. Assumes nothing.
+-- `bus::are_apart` meets its contract. The loop's invariant: those that are left decide. Assumes nothing.
 use mathlib.Core.Path.{◌≡◌}
-use Prim.Native.Nat.{◌-◌}
-use lib.ListN.{take, drop}
+use lib.ListN.{length}
 use Rattle.bus.specs.Refusals.{apart}
 use Rattle.bus.proofs.pair.are_apart.Given as goal
 
-abbrev pub invariant-loop-i : goal.invariant-loop-i
-invariant-loop-i l = apart (take l.count l.setups) ≡ apart (drop l.i (take l.count l.setups))
+abbrev pub invariant-loop-setup : goal.invariant-loop-setup
+invariant-loop-setup l = apart l.setups ≡ apart l.left
 
-abbrev pub decreases-loop-i : goal.decreases-loop-i
-decreases-loop-i l = l.count - l.i
+abbrev pub decreases-loop-setup : goal.decreases-loop-setup
+decreases-loop-setup l = length l.left

@@ -8,10 +8,13 @@ use Rattle.card.proofs.Runs.{Carried, played_from}
 use Rattle.card.proofs.Taking.{reached_of, stands_at, Closes}
 use Rattle.card.proofs.answering.take_all.Given as goal
 
-abbrev pub invariant-loop-halt : goal.invariant-loop-halt
-invariant-loop-halt l =
-    Carried (hears l.bench l.maker) (played_from (hears l.bench l.maker) l.initial.out l.words (stands_at l.setup l.initial.offer l.initial.values (reached_of l.initial.chars l.initial.halt)) l.initial.halt.at) l.initial.out l.words (stands_at l.setup l.offer l.values (reached_of l.chars l.halt)) l.out l.at l.halt.at
-    × Closes l.words (reached_of l.chars l.halt)
+abbrev pub invariant-loop-taken : goal.invariant-loop-taken
+invariant-loop-taken l =
+    let takes = hears l.tested.sheets.bench.now l.tested.sheets.maker.now in
+    let first = stands_at l.setup l.initial.offer l.initial.values (reached_of l.initial.pending l.initial.taken) in
+    let here = stands_at l.setup l.offer l.values (reached_of l.pending l.taken) in
+    Carried takes (played_from takes l.initial.out l.words first l.initial.taken) l.initial.out l.words here l.out l.at l.taken
+    × Closes l.words (reached_of l.pending l.taken)
 
-abbrev pub decreases-loop-halt : goal.decreases-loop-halt
-decreases-loop-halt l = length l.words - l.halt.at
+abbrev pub decreases-loop-taken : goal.decreases-loop-taken
+decreases-loop-taken l = length l.words - l.taken

@@ -1,5 +1,5 @@
 -- `hearing::fits` meets its contract: a normal form is never longer than its recording. Assumes nothing.
-use mathlib.Core.Path.{sym}
+use mathlib.Core.Path.{sym, ◌∙◌}
 use native.Mathlib.Omega.{arith}
 use borrow.Author.Tests.{le-leb}
 use lib.ListN.{length}
@@ -9,8 +9,5 @@ use Rattle.hearing.proofs.passes.fits.Goals as goal
 
 pub returns-then-words-room : goal.returns-then-words-room
 returns-then-words-room c =
-    let a = c.before.before.args in
-    sym (le-leb (length (normal a.words.now)) a.room (omega (arith, normal_short a.words.now, c.if-words-room.true)))
-
-pub returns : goal.returns
-returns c = c.measure.ensures
+    let a = c.args in
+    le-leb (length a.words.now) a.room c.if-words-room.true ∙ sym (le-leb (length (normal a.words.now)) a.room (omega (arith, normal_short a.words.now, c.if-words-room.true)))
