@@ -41,6 +41,7 @@ fn body_of(identifier: u8, kind: u8, number: i32, decimals: u32, minus_zero: u32
     }
 }
 
+// The message that seven numbers ask for: C gives them one by one.
 #[tactic(auto, unfolding(crate::specs::Result::asked))]
 pub(crate) fn asked(
     letter: u8,

@@ -82,10 +82,7 @@ fn pair(x: Decimal) -> [i32; 2]
 fn five_of(content: Content) -> (u8, [Decimal; 5])
     ensures { result ≡ five_of content }
 {
-    let none = Decimal {
-        number: 0,
-        decimals: 0,
-    };
+    let none = Decimal::default();
     match content {
         Content::Empty => (0, [none; 5]),
         Content::Number(a) => (1, [a, none, none, none, none]),
@@ -105,7 +102,7 @@ fn answer_row(answer: Answer) -> [i32; ANSWER]
         content,
     } = answer;
     let (count, numbers) = five_of(content);
-    let bytes = [letter, address, identifier, reply::mark_of(mark), count];
+    let bytes = [letter, address, identifier, u8::from(mark), count];
     let mut row = [0; ANSWER];
     row[..5].copy_from_slice(&bytes.map(i32::from));
     row[5..].copy_from_slice(numbers.map(pair).as_flattened());

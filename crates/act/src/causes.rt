@@ -26,7 +26,7 @@ pub enum Cause {
 }
 
 // How a message stands with the card, by what the sheets, the values and the offer say, in the order of the tests: each is true where that
-// test is passed, or its type doesn't make it. Whom it is for and minus zero are judged by the setup.
+// test is passed, or its type doesn't make it. Whom it is for and minus zero are judged by the setup. Six flags, and no value beside one.
 #[derive(Clone, Copy)]
 pub struct Standing {
     pub offered: bool, // the identifier, for a Type 4

@@ -200,6 +200,7 @@ pub(crate) fn take_all<'a>(
     };
     let mut taken = pending.to_close(words, 0);
     let mut at = 0;
+    // No `for`, and the choice at each caller, as in `card::answering::take_all`.
     while taken < words.len() {
         let message = pending.close();
         let k = meant_by(&table, message);

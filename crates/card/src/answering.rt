@@ -107,7 +107,7 @@ fn keep(values: &mut [i32], store: Option<Store>)
     let Some(Store { place, value }) = store else {
         return;
     };
-    let at = place as usize;
+    let at = usize::from(place);
     if at < values.len() {
         values[at] = value;
     }

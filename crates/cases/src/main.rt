@@ -52,7 +52,7 @@ struct Count {
     differ: u64,
 }
 
-// Reads until the room is full or the input ends; answers how many bytes that were.
+// Reads until the room is full or the input ends; answers how many bytes that were. Each read says how far it came, so no iterator counts it.
 fn read_full(input: &mut impl Read, room: &mut [u8]) -> io::Result<usize>
     ensures { IfOk result (λ n. n ≤ length room.new) }
 {

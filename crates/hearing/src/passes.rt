@@ -40,7 +40,7 @@ fn next_closed(words: &[u16], from: usize) -> Option<Closing>
     })
 }
 
-// The counting pass: whether the normal form fits the room.
+// The counting pass: whether the normal form fits the room. It and the writing pass share `next_closed`; what they do with a message differs.
 fn measure(words: &[u16], room: usize) -> bool
     ensures { result ≡ leb (length (normal words.now)) room }
 {
@@ -98,7 +98,8 @@ fn put(message: Option<Message>, out: &mut [u16], at: usize) -> usize
     }
 }
 
-// All of the bytes into the buffer from a place on, and the place behind them.
+// All of the bytes into the buffer from a place on, and the place behind them. By index: a `zip` with `iter_mut` was tried, and left open what
+// the whole buffer holds.
 fn copy(bytes: &[u8], out: &mut [u16], at: usize) -> usize
     requires { at + length bytes.now ≤ length out.old }
     ensures { (result ≡ at + length bytes.now) × (out.new ≡ placed bytes.now at out.old) }

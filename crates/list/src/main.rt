@@ -14,7 +14,8 @@ const BYTES: usize = 8192;
 // The lines of a buffer of words fill less than this.
 const ROOM: usize = 32768;
 
-// How far the program is: `from` to `len` are the bytes read and not yet listed, and `used` bytes of output wait to be written.
+// How far the program is: `from` to `len` are the bytes read and not yet listed, and `used` bytes of output wait to be written. The two buffers
+// are fixed memory, so what stands in them is a length.
 #[derive(Clone, Copy)]
 struct State {
     progress: Progress,

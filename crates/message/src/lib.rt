@@ -228,7 +228,7 @@ pub fn kind_of(body: Body) -> Kind
     }
 }
 
-// A message with one digit of address and a sign, as it travels.
+// A message with one digit of address and a sign, as it travels. One function for both counts of digits would have to choose between two types.
 #[tactic(auto, unfolding(wire::specs::Word::travelling))]
 pub fn with_one_digit(letter: u8, digit: u8, identifier: u8, sign: u8) -> [u8; 5]
     ensures { result ≡ travelling (letter ∷ digit ∷ identifier ∷ sign ∷ star ∷ []) }

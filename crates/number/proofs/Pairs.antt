@@ -1,13 +1,13 @@
 -- The four characters of a number of four digits, made from its two pairs of digits at once: what each of the numbers is that the code makes
 -- on its way (`Products`). Division by 100 and by 10 is a product and a shift, right for as many digits as there are. Assumes nothing.
 use mathlib.Core.Path.{◌≡◌, ap, ap₂, ◌∙◌}
-use mathlib.Core.List.{[], ◌∷◌}
+use mathlib.Core.List.{List, [], ◌∷◌}
 use Prim.Native.Nat.{ℕ, ◌+◌, ◌*◌, ◌/◌, ◌%◌, ◌≤◌, ◌<◌, ◌^◌}
 use native.Mathlib.Omega.{arith}
-use lib.Bits.{and_block, and_mask}
+use lib.Bits.{bit_and, and_block, and_mask}
 use mir.Syntax.{w32}
 use Rattle.std.specs.Int.{to_le_bytes}
-use Rattle.number.specs.Data.{digit}
+use Rattle.number.specs.Data.{digit, five_digits}
 use Rattle.number.specs.Inner.{characters}
 use Rattle.number.proofs.Products.{halves, lower, paired, pairs, scaled, low_bits, tens, joined, upper}
 
@@ -77,9 +77,31 @@ pub ruleset pairing = (tens_are, characters_are)
 
 -- ---- their bytes
 
-four_bytes : (a b c d : ℕ) → a ≤ 255 → b ≤ 255 → c ≤ 255 → d ≤ 255
+four_bytes : (a b c d : ℕ) → a ≤ 255 → b ≤ 255 → c ≤ 255
+    → let n = a + b * 256 + c * 65536 + d * 16777216 in
+    (n % 2 ^ 8 ≡ a) × (n / 2 ^ 8 % 2 ^ 8 ≡ b) × (n / 2 ^ 16 % 2 ^ 8 ≡ c) × (n / 2 ^ 24 ≡ d)
+four_bytes a b c d ha hb hc = (omega arith, omega arith, omega arith, omega arith)
+
+digit_byte : (n : ℕ) → digit (n % 10) ≤ 255
+unfolding digit
+digit_byte n = omega arith
+
+-- the bytes of n, and the character of k
+abbrev pub bytes : ℕ → ℕ → List ℕ
+bytes n k = bit_and n 255 ∷ bit_and (n / 2 ^ 8) 255 ∷ bit_and (n / 2 ^ 16) 255 ∷ (n / 2 ^ 24) ∷ (48 + k) ∷ []
+
+pub bytes_are : (m k : ℕ) → k ≤ 9 → bytes (characters m) k ≡ five_digits m k
+unfolding characters five_digits digit
+bytes_are m k h =
+    let n = characters m in
+    let f = four_bytes _ _ _ (digit (m % 10)) (digit_byte (m / 10 / 10 / 10)) (digit_byte (m / 10 / 10)) (digit_byte (m / 10)) in
+    let e : k ≡ k % 10 = omega arith in
+    cc (and_mask n 8, and_mask (n / 2 ^ 8) 8, and_mask (n / 2 ^ 16) 8, f.0, f.1, f.2, f.3, e)
+
+-- the same by the library's bytes of a number, as the code takes them
+le_bytes : (a b c d : ℕ) → a ≤ 255 → b ≤ 255 → c ≤ 255 → d ≤ 255
     → to_le_bytes w32 (a + b * 256 + c * 65536 + d * 16777216) ≡ a ∷ b ∷ c ∷ d ∷ []
-four_bytes a b c d ha hb hc hd =
+le_bytes a b c d ha hb hc hd =
     let n = a + b * 256 + c * 65536 + d * 16777216 in
     let e : n % 256 ≡ a = omega arith in
     let f : n / 256 ^ 1 % 256 ≡ b = omega arith in
@@ -87,10 +109,6 @@ four_bytes a b c d ha hb hc hd =
     let h : n / 256 ^ 3 % 256 ≡ d = omega arith in
     cc (e, f, g, h)
 
-digit_byte : (n : ℕ) → digit (n % 10) ≤ 255
-unfolding digit
-digit_byte n = omega arith
-
-pub bytes_are : (m : ℕ) → to_le_bytes w32 (characters m) ≡ digit (m / 10 / 10 / 10 % 10) ∷ digit (m / 10 / 10 % 10) ∷ digit (m / 10 % 10) ∷ digit (m % 10) ∷ []
+pub le_bytes_are : (m : ℕ) → to_le_bytes w32 (characters m) ≡ digit (m / 10 / 10 / 10 % 10) ∷ digit (m / 10 / 10 % 10) ∷ digit (m / 10 % 10) ∷ digit (m % 10) ∷ []
 unfolding characters
-bytes_are m = four_bytes _ _ _ _ (digit_byte (m / 10 / 10 / 10)) (digit_byte (m / 10 / 10)) (digit_byte (m / 10)) (digit_byte m)
+le_bytes_are m = le_bytes _ _ _ _ (digit_byte (m / 10 / 10 / 10)) (digit_byte (m / 10 / 10)) (digit_byte (m / 10)) (digit_byte m)

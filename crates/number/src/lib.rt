@@ -15,7 +15,8 @@ pub struct Decimal {
     pub decimals: u8,
 }
 
-// A number as a message has it: the sign of zero, which a number has not, stands beside it.
+// A number as a message has it: the sign of zero, which a number has not, stands beside it. A field of its own, since the claims on both
+// zeros (`demands/specs/Zeros`) compare numbers that differ in it alone.
 #[derive(Clone, Copy, Debug, PartialEq, Eq)]
 pub struct Numeral {
     pub number: i32,
@@ -139,9 +140,9 @@ pub fn code(x: Decimal) -> u32
     ensures { result ≡ code_of x.number x.decimals }
 {
     if x.number < 0 {
-        x.decimals as u32 + 5
+        u32::from(x.decimals) + 5
     } else {
-        x.decimals as u32
+        u32::from(x.decimals)
     }
 }
 
@@ -161,7 +162,7 @@ fn characters(m: u32) -> u32
 }
 
 // Four digits of a number and the digit of a code.
-#[tactic(auto, using(crate::proofs::Pairs::bytes_are), unfolding(crate::specs::Data::five_digits, crate::specs::Data::digit))]
+#[tactic(auto, using(crate::proofs::Pairs::le_bytes_are), unfolding(crate::specs::Data::five_digits, crate::specs::Data::digit))]
 fn five_digits(m: u32, k: u32) -> [u8; 5]
     requires { (m ≤ 9999) × (k ≤ 9) }
     ensures { result ≡ five_digits m k }
@@ -198,7 +199,7 @@ pub fn write_numeral(x: Numeral) -> [u8; 5]
 {
     let mut digits = write_data(x.into());
     if x.minus_zero {
-        let k = x.decimals as u32 + 5;
+        let k = u32::from(x.decimals) + 5;
         digits[4] = b'0' + (k % 10) as u8;
     }
     digits
@@ -240,7 +241,7 @@ pub fn read_next(read: Data, c: u8) -> Data
     if count < 4 {
         Data::Partial {
             count: count + 1,
-            value: value * 10 + digit as u32,
+            value: value * 10 + u32::from(digit),
         }
     } else {
         decoded(value, digit)

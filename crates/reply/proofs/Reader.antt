@@ -11,7 +11,13 @@ use borrow.Author.Tests.{eqb-true, eq-eqb, ne_eqb}
 use lib.Dec.{leb, eqb, lit<}
 use lib.IntN.{ℤ, pos, negsuc, nat_abs}
 use lib.ListN.{length, get_or, take, drop, length-append, length-take, length-drop, length-map, get_or-map, get_or-eq_default}
-use lib.Seq.{get_or-take, get_or-drop, get_or-append-add, drop-drop}
+use lib.Seq.{get_or-drop, get_or-append-add, drop-drop}
+use borrow.Author.Rules.{rules}
+use Rattle.std.proofs.Common.{Bor}
+use Rattle.std.specs.Prelude.{Option, Some, None}
+use Rattle.std.specs.Option.{MatchOption}
+use Rattle.std.proofs.lemmas.List.{drop-map}
+use Rattle.std.specs.Slice.{IsItemAt}
 use Rattle.refusal.specs.Lists.{every, same}
 use Rattle.refusal.specs.Refusal.{refused, gave}
 use Rattle.refusal.specs.Check.{refuse_if, first, decided}
@@ -32,7 +38,6 @@ use Rattle.number.proofs.Several.{all_length, first_data, nth, each_read}
 use Rattle.message.specs.Message.{star, question, is_letter, is_address, is_identifier}
 use Rattle.message.specs.Spell.{spell_address}
 use Rattle.message.proofs.Messages.{address_most, identifier_no_digit}
-use Rattle.message.proofs.Places.{five_are}
 use Rattle.message.proofs.Spelling.{Small, plain_small}
 use Rattle.reply.specs.declared.Mark.{Mark}
 use Rattle.reply.specs.declared.Mark.TheVariants as mark
@@ -134,6 +139,12 @@ character_in bs k = get_or-map (λ (b : ℕ). b % 128) bs k 0
 pub character_out : (bs : List ℕ) (k : ℕ) → length bs ≤ k → get_or (characters_of bs) k 0 ≡ 0
 unfolding characters_of
 character_out bs k h = get_or-eq_default (map (λ (b : ℕ). b % 128) bs) 0 (subst (λ (n : ℕ). n ≤ k) (sym (length-map bs (λ (b : ℕ). b % 128))) h)
+
+-- by what `get` lends at the place
+pub character_is : (bs : List ℕ) (k r : ℕ) (Q : Bor ℕ → Type 0) (o : Option (Bor ℕ)) → IsItemAt bs k o → MatchOption o (r ≡ 0) Q → ((x : Bor ℕ) → Q x → r ≡ x.now % 128)
+    → r ≡ get_or (characters_of bs) k 0
+character_is bs k r Q None i m h = m ∙ sym (character_out bs k (search rules))
+character_is bs k r Q (Some x) i m h = h x m ∙ sym (character_in bs k ∙ ap (λ (b : ℕ). b % 128) (search rules))
 
 pub characters_back : (cs : List ℕ) → Small cs → characters_of (travelling cs) ≡ cs
 unfolding characters_of travelling
@@ -293,16 +304,17 @@ number_short cs k h = go (read_data (take 5 (drop k cs))) refl
     go (read.Number x) e = absurd (omega (arith, read_length (take 5 (drop k cs)) x e, length-take 5 (drop k cs), length-drop k cs))
     go Invalid e = refl
 
--- five characters, one after the other
-pub five_at : (cs : List ℕ) (k : ℕ) → k + 5 ≤ length cs
-    → get_or cs k 0 ∷ get_or cs (k + 1) 0 ∷ get_or cs (k + 2) 0 ∷ get_or cs (k + 3) 0 ∷ get_or cs (k + 4) 0 ∷ [] ≡ take 5 (drop k cs)
-five_at cs k h =
-    let z : k ≡ k + 0 = omega arith in
-    let l : length (take 5 (drop k cs)) ≡ 5 = omega (arith, length-take 5 (drop k cs), length-drop k cs) in
-    (λ j. (ap (λ (i : ℕ). get_or cs i 0) z ∙ its 0 (lit< tt)) j ∷ its 1 (lit< tt) j ∷ its 2 (lit< tt) j ∷ its 3 (lit< tt) j ∷ its 4 (lit< tt) j ∷ []) ∙ five_are (take 5 (drop k cs)) l
-  where
-    its : (i : ℕ) → i < 5 → get_or cs (k + i) 0 ≡ get_or (take 5 (drop k cs)) i 0
-    its i h = character_behind cs k i ∙ sym (get_or-take 5 (drop k cs) i 0 h)
+-- five characters or more, one after the other
+pub number_here : (bs rest : List ℕ) (k : ℕ) → rest ≡ drop k bs → 5 ≤ length rest
+    → read_or_zero (read_data (get_or rest 0 0 % 128 ∷ get_or rest 1 0 % 128 ∷ get_or rest 2 0 % 128 ∷ get_or rest 3 0 % 128 ∷ get_or rest 4 0 % 128 ∷ [])) ≡ decimal_at (characters_of bs) k
+unfolding characters_of decimal_at
+number_here bs (a ∷ b ∷ c ∷ d ∷ e ∷ more) k h l =
+    ap (λ (ds : List ℕ). read_or_zero (read_data (take 5 ds))) (ap (map (λ (x : ℕ). x % 128)) h ∙ sym (drop-map (λ (x : ℕ). x % 128) k bs))
+number_here bs [] k h l = absurd (omega arith)
+number_here bs (a ∷ []) k h l = absurd (omega arith)
+number_here bs (a ∷ b ∷ []) k h l = absurd (omega arith)
+number_here bs (a ∷ b ∷ c ∷ []) k h l = absurd (omega arith)
+number_here bs (a ∷ b ∷ c ∷ d ∷ []) k h l = absurd (omega arith)
 
 -- a number from k on, by its place among all characters
 number_behind : (cs : List ℕ) (k j : ℕ) → decimal_at cs (k + j) ≡ decimal_at (drop k cs) j

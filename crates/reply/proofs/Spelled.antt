@@ -104,6 +104,10 @@ pub answer_some : (a : Answer) → 0 < length (spell_answer a)
 unfolding spell_answer
 answer_some a = omega arith
 
+-- the bytes are as many as the characters
+pub travelling_count : (a : Answer) → length (travelling (spell_answer a)) ≡ length (spell_answer a)
+travelling_count a = travelling_length (spell_answer a)
+
 -- ---- its characters
 
 -- how many digits there are, and the digits

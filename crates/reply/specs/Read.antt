@@ -3,7 +3,7 @@
 use Rattle.std.specs.Prelude.{Bool, cond, not, ◌&&◌, List, [], ◌∷◌, map, ℕ, ◌+◌, ◌-◌, ◌*◌, ◌%◌, eqb, pos, length, get_or, take, drop}
 use Prim.Native.Char.{code}
 use Rattle.refusal.specs.Lists.{same}
-use Rattle.refusal.specs.Refusal.{Outcome, refused, gave, number_of}
+use Rattle.refusal.specs.Refusal.{Outcome, refused, gave}
 use Rattle.refusal.specs.Check.{refuse_if, first, decided}
 use Rattle.refusal.specs.declared.Refusal.TheVariants.{NotReply}
 use Rattle.wire.specs.Word.{travelling}
@@ -18,8 +18,6 @@ use Rattle.reply.specs.declared.Content.{Content}
 use Rattle.reply.specs.declared.Content.TheVariants.{Empty, Number, Four, Five}
 use Rattle.reply.specs.declared.Answer.{Answer}
 use Rattle.reply.specs.Reply.{spell_answer, is_answer}
-use Rattle.std.specs.Prelude.{Err, Ok, Result}
-use Rattle.refusal.specs.declared.Refusal.{Refusal}
 
 -- the seven bits of each byte
 unfoldable pub characters_of : List ℕ → List ℕ

@@ -10,7 +10,7 @@ use number::{Data, Decimal};
 fn character_at(bytes: &[u8], k: usize) -> u8
     ensures { result ≡ get_or (characters_of bytes.now) k 0 }
 {
-    if k < bytes.len() { bytes[k] % 128 } else { 0 }
+    bytes.get(k).map_or(0, |byte| byte % 128)
 }
 
 #[tactic(auto, unfolding(number::specs::Data::digit_of))]
@@ -38,10 +38,7 @@ fn read_or_zero(read: Data) -> Decimal
 {
     match read {
         Data::Number(x) => x.into(),
-        Data::Partial { .. } | Data::Invalid => Decimal {
-            number: 0,
-            decimals: 0,
-        },
+        Data::Partial { .. } | Data::Invalid => Decimal::default(),
     }
 }
 
@@ -50,18 +47,11 @@ fn decimal_at(bytes: &[u8], k: usize) -> Decimal
     requires { k ≤ 26 }
     ensures { result ≡ decimal_at (characters_of bytes.now) k }
 {
-    if bytes.len() < k + 5 {
-        return Decimal {
-            number: 0,
-            decimals: 0,
-        };
-    }
-    let a = character_at(bytes, k);
-    let b = character_at(bytes, k + 1);
-    let c = character_at(bytes, k + 2);
-    let d = character_at(bytes, k + 3);
-    let e = character_at(bytes, k + 4);
-    read_or_zero(number::read_data([a, b, c, d, e]))
+    let Some([a, b, c, d, e, ..]) = bytes.get(k..) else {
+        return Decimal::default();
+    };
+    let digits = [a % 128, b % 128, c % 128, d % 128, e % 128];
+    read_or_zero(number::read_data(digits))
 }
 
 // The identifier stands at k: four numbers, five, or one, by how many characters there are.
@@ -70,21 +60,23 @@ fn guess_content(bytes: &[u8], k: usize) -> Content
     ensures { result ≡ guess_content (drop k (characters_of bytes.now)) }
 {
     if bytes.len() == k + 25 {
-        let a = decimal_at(bytes, k + 3);
-        let b = decimal_at(bytes, k + 8);
-        let c = decimal_at(bytes, k + 13);
-        let d = decimal_at(bytes, k + 18);
-        return Content::Four(a, b, c, d);
+        Content::Four(
+            decimal_at(bytes, k + 3),
+            decimal_at(bytes, k + 8),
+            decimal_at(bytes, k + 13),
+            decimal_at(bytes, k + 18),
+        )
+    } else if bytes.len() == k + 30 {
+        Content::Five(
+            decimal_at(bytes, k + 3),
+            decimal_at(bytes, k + 8),
+            decimal_at(bytes, k + 13),
+            decimal_at(bytes, k + 18),
+            decimal_at(bytes, k + 23),
+        )
+    } else {
+        Content::Number(decimal_at(bytes, k + 1))
     }
-    if bytes.len() == k + 30 {
-        let a = decimal_at(bytes, k + 3);
-        let b = decimal_at(bytes, k + 8);
-        let c = decimal_at(bytes, k + 13);
-        let d = decimal_at(bytes, k + 18);
-        let e = decimal_at(bytes, k + 23);
-        return Content::Five(a, b, c, d, e);
-    }
-    Content::Number(decimal_at(bytes, k + 1))
 }
 
 // The character before the last, from k on.
@@ -92,11 +84,7 @@ fn mark_at(bytes: &[u8], k: usize) -> u8
     requires { k ≤ 3 }
     ensures { result ≡ get_or (drop k (characters_of bytes.now)) (length (drop k (characters_of bytes.now)) - 2) 0 }
 {
-    if bytes.len() < k + 2 {
-        return character_at(bytes, k);
-    }
-    let at = bytes.len() - 2;
-    character_at(bytes, at)
+    character_at(bytes, k.max(bytes.len().saturating_sub(2)))
 }
 
 // The identifier stands at k.
@@ -104,25 +92,17 @@ fn guess_behind(bytes: &[u8], address: u8, k: usize) -> Answer
     requires { k ≤ 3 }
     ensures { result ≡ guess_behind (get_or (characters_of bytes.now) 0 0) address (drop k (characters_of bytes.now)) }
 {
-    let letter = character_at(bytes, 0);
     let identifier = character_at(bytes, k);
-    let mark = guess_mark(mark_at(bytes, k));
-    if identifier == b'?' {
-        let content = Content::Empty;
-        return Answer {
-            letter,
-            address,
-            identifier,
-            mark,
-            content,
-        };
-    }
-    let content = guess_content(bytes, k);
+    let content = if identifier == b'?' {
+        Content::Empty
+    } else {
+        guess_content(bytes, k)
+    };
     Answer {
-        letter,
+        letter: character_at(bytes, 0),
         address,
         identifier,
-        mark,
+        mark: guess_mark(mark_at(bytes, k)),
         content,
     }
 }
@@ -134,8 +114,7 @@ pub(crate) fn guess(bytes: &[u8]) -> Answer
     let tens = digit_of(character_at(bytes, 1));
     let second = character_at(bytes, 2);
     if number::is_digit(second) {
-        let ones = digit_of(second);
-        let address = (tens as u32 * 10 + ones as u32) % 100;
+        let address = (tens as u32 * 10 + digit_of(second) as u32) % 100;
         guess_behind(bytes, address as u8, 3)
     } else {
         guess_behind(bytes, tens, 2)

@@ -50,56 +50,45 @@ pub struct Answer {
 }
 
 // The character of a mark.
-pub fn mark_of(mark: Mark) -> u8
-    ensures { result ≡ mark_of mark }
-{
-    match mark {
-        Mark::Accepted => b'A',
-        Mark::Offered => b'I',
-        Mark::Declined => b'N',
+impl From<Mark> for u8 {
+    ghost from_gives = { λ mark c. c ≡ mark_of mark };
+
+    fn from(mark: Mark) -> u8 {
+        match mark {
+            Mark::Accepted => b'A',
+            Mark::Offered => b'I',
+            Mark::Declined => b'N',
+        }
     }
 }
 
 // The letter, the address and the identifier into a buffer from a place on, as they travel, and the place behind them.
+#[tactic(auto, unfolding(crate::specs::Inner::spell_front, message::specs::Spell::spell_address))]
 fn place_front(letter: u8, address: u8, identifier: u8, out: &mut [u8], at: usize) -> usize
     requires { at + length (spell_front letter address identifier) ≤ length out.old }
     ensures { (result ≡ at + length (spell_front letter address identifier)) × (out.new ≡ placed (travelling (spell_front letter address identifier)) at out.old) }
 {
-    let l = wire::with_parity(letter);
-    let i = wire::with_parity(identifier);
     if address <= 9 {
-        let d = wire::with_parity(48 + address);
-        let bytes = [l, d, i];
-        let _ = wire::place(&bytes, out, at);
-        return at + 3;
+        let front = [letter, 48 + address, identifier];
+        out[at..at + 3].copy_from_slice(&front.map(wire::with_parity));
+        at + 3
+    } else {
+        let front = [letter, 48 + address / 10, 48 + address % 10, identifier];
+        out[at..at + 4].copy_from_slice(&front.map(wire::with_parity));
+        at + 4
     }
-    let t = wire::with_parity(48 + address / 10);
-    let u = wire::with_parity(48 + address % 10);
-    let bytes = [l, t, u, i];
-    let _ = wire::place(&bytes, out, at);
-    at + 4
 }
 
-// Five digits in the same way. They are stored one by one: that a copy of all five leaves the same was tried, and its proof did not close.
+// Five digits in the same way.
 fn place_number(x: Decimal, out: &mut [u8], at: usize) -> usize
     requires { at + 5 ≤ length out.old }
     ensures { (result ≡ at + 5) × (out.new ≡ placed (travelling (spell_data x)) at out.old) }
 {
-    let digits = number::write_data(x);
-    let a = wire::with_parity(digits[0]);
-    let b = wire::with_parity(digits[1]);
-    let c = wire::with_parity(digits[2]);
-    let d = wire::with_parity(digits[3]);
-    let e = wire::with_parity(digits[4]);
-    out[at] = a;
-    out[at + 1] = b;
-    out[at + 2] = c;
-    out[at + 3] = d;
-    out[at + 4] = e;
+    out[at..at + 5].copy_from_slice(&number::write_data(x).map(wire::with_parity));
     at + 5
 }
 
-// Four numbers in the same way.
+// Four numbers in the same way. A fold that hands the place on is no plainer: its closure would hold the buffer.
 fn place_four(a: Decimal, b: Decimal, c: Decimal, d: Decimal, out: &mut [u8], at: usize) -> usize
     requires { at + 20 ≤ length out.old }
     ensures { (result ≡ at + 20) × (out.new ≡ placed (travelling (spell_all (a ∷ b ∷ c ∷ d ∷ []))) at out.old) }
@@ -115,10 +104,7 @@ fn place_two(x: u8, y: u8, out: &mut [u8], at: usize) -> usize
     requires { at + 2 ≤ length out.old }
     ensures { (result ≡ at + 2) × (out.new ≡ placed (travelling (x ∷ y ∷ [])) at out.old) }
 {
-    let first = wire::with_parity(x);
-    let second = wire::with_parity(y);
-    out[at] = first;
-    out[at + 1] = second;
+    out[at..at + 2].copy_from_slice(&[x, y].map(wire::with_parity));
     at + 2
 }
 
@@ -148,8 +134,8 @@ fn content_len(content: Content) -> usize
     match content {
         Content::Empty => 0,
         Content::Number(_) => 5,
-        Content::Four(_, _, _, _) => 22,
-        Content::Five(_, _, _, _, _) => 27,
+        Content::Four(..) => 22,
+        Content::Five(..) => 27,
     }
 }
 
@@ -166,22 +152,18 @@ fn spelled_len(answer: Answer) -> usize
 }
 
 // The reply into a buffer from a place on, as it travels.
+#[tactic(auto, using(refusal::proofs::Calls::place_refuses, crate::proofs::Spelled::travelling_count))]
 pub fn place(answer: Answer, out: &mut [u8], at: usize) -> Result<usize, Refusal>
     ensures { call_of result out.new ≡ place_call (travelling (spell_answer answer)) at out.old }
 {
     let n = spelled_len(answer);
-    if out.len() < at {
+    if out.len() < at || out.len() - at < n {
         return Err(Refusal::RoomTooShort);
     }
-    if out.len() - at < n {
-        return Err(Refusal::RoomTooShort);
-    }
-    let given = answer.mark;
-    let content = answer.content;
     // The mark and `*` come before the content, which costs less than behind a choice of contents.
     let data = place_front(answer.letter, answer.address, answer.identifier, out, at);
-    place_two(mark_of(given), b'*', out, at + n - 2);
-    place_content(content, out, data);
+    place_two(answer.mark.into(), b'*', out, at + n - 2);
+    place_content(answer.content, out, data);
     Ok(n)
 }
 
@@ -193,26 +175,26 @@ fn is_no_number(x: Decimal) -> bool
     x.number == 0 && x.decimals == 0
 }
 
-fn fits_four(a: Decimal, b: Decimal, c: Decimal, d: Decimal) -> bool
-    ensures { result ≡ every fits (a ∷ b ∷ c ∷ d ∷ []) }
-{
-    number::fits(a) & (number::fits(b) & (number::fits(c) & number::fits(d)))
-}
-
+#[tactic(auto, using(refusal::proofs::Lists::every_all), unfolding(crate::specs::Reply::fits_content))]
 fn fits_content(identifier: u8, mark: Mark, content: Content) -> bool
     ensures { result ≡ fits_content identifier mark content }
 {
-    let m = mark_of(mark);
     match content {
-        Content::Empty => (m == b'A') & (identifier == b'?'),
+        Content::Empty => mark == Mark::Accepted && identifier == b'?',
         Content::Number(x) => {
-            (identifier != b'?')
-                & number::fits(x)
-                & ((identifier != SCAN) | ((m == b'N') & is_no_number(x)))
+            identifier != b'?'
+                && number::fits(x)
+                && (identifier != SCAN || (mark == Mark::Declined && is_no_number(x)))
         }
-        Content::Four(a, b, c, d) => (m == b'A') & (identifier == SCAN) & fits_four(a, b, c, d),
+        Content::Four(a, b, c, d) => {
+            mark == Mark::Accepted
+                && identifier == SCAN
+                && [a, b, c, d].iter().all(|x| number::fits(*x))
+        }
         Content::Five(a, b, c, d, e) => {
-            (m == b'A') & (identifier == SCAN) & (number::fits(a) & fits_four(b, c, d, e))
+            mark == Mark::Accepted
+                && identifier == SCAN
+                && [a, b, c, d, e].iter().all(|x| number::fits(*x))
         }
     }
 }

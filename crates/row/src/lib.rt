@@ -127,7 +127,7 @@ pub fn card_of(row: &[i32]) -> Card
 
 // ---- from a card to numbers
 
-// A byte, widened.
+// A byte, widened: `i32::from`, which `.map` takes by this name too.
 pub fn wide(x: u8) -> i32
     ensures { result ≡ pos x }
 {

@@ -138,7 +138,8 @@ fn mark_row(code: i32, place: usize, places: &mut [usize])
     }
 }
 
-// The rows of a sheet, from the last to the first: of two with one identifier the first holds.
+// The rows of a sheet, from the last to the first: of two with one identifier the first holds. By index: of `.enumerate().rev()` the library
+// has no law that says which item has which number.
 fn mark(sheet: &[i32], base: usize, places: &mut [usize])
     requires { base + length sheet.now ≤ 9223372036854775807 }
     ensures { places.new ≡ marked sheet.now base places.old }

@@ -63,13 +63,14 @@ fn put(
         at as u64,
         characters as u64,
         bytes as u64,
-        act::causes::cause_code(cause) as u64,
-        act::causes::cause_position(cause) as u64,
+        u64::from(act::causes::cause_code(cause)),
+        u64::from(act::causes::cause_position(cause)),
     ];
     notes[from..from + NOTE].copy_from_slice(&note);
 }
 
-// The words of a trace that passed, as `card::run` takes them. A message is noted once its reply is written.
+// The words of a trace that passed, as `card::run` takes them. A message is noted once its reply is written. A loop of its own, so that a run
+// pays nothing for notes.
 fn take_all<'a>(
     card: Card,
     tested: &Tested<'a>,

@@ -1,25 +1,14 @@
 -- `reply::place_two` meets its contract: the two bytes are those of the characters. Assumes nothing.
-use mathlib.Core.Path.{◌≡◌, refl}
+use mathlib.Core.Path.{refl, ◌∙◌}
 use mathlib.Core.List.{[], ◌∷◌}
-use Prim.Native.Nat.{suc, ◌+◌}
 use native.Mathlib.Omega.{arith}
-use lib.ListN.{length-set}
-use Rattle.refusal.proofs.Buffers.{placed_sets}
-use Rattle.wire.specs.Word.{with_parity, travelling}
+use borrow.Author.Rules.{rules}
+use Rattle.refusal.proofs.Buffers.{copied_placed}
+use Rattle.reply.proofs.Sent.{sent}
+use Rattle.wire.proofs.Words.{travelling_length}
 use Rattle.reply.proofs.place_two.Goals as goal
 
-pub bounds-out-at : goal.bounds-out-at
-bounds-out-at c = omega (arith, c.before.before.before.requires)
-
-pub bounds-out-at-2 : goal.bounds-out-at-2
-bounds-out-at-2 c = simp length-set (omega (arith, c.before.before.before.requires))
-
 pub returns : goal.returns
-unfolding travelling
 returns c =
-    let s = c.before.before.before in
-    let a = s.args in
-    let next : a.at + 1 ≡ suc a.at = omega arith in (
-      refl,
-      rw (next, c.before.with_parity-first.ensures, c.with_parity-second.ensures) (placed_sets (with_parity a.x ∷ with_parity a.y ∷ []) a.out.now a.at s.requires),
-    )
+    let s = sent _ _ _ _ _ c.map.ensures.items refl (λ p x y q k. search rules) in
+    (refl, copied_placed _ _ _ _ _ (c.copy_from_slice.ensures.after ∙ s) (omega (arith, travelling_length (c.args.x ∷ c.args.y ∷ []))))

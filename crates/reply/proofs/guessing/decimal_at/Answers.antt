@@ -1,31 +1,24 @@
 -- `reply::decimal_at` meets its contract: fewer than five characters are no number. Assumes nothing.
+use borrow.Author.Rules.{rules}
 use mathlib.Core.Path.{sym, ap, ◌∙◌}
-use mathlib.Core.List.{[], ◌∷◌}
 use native.Mathlib.Omega.{arith}
-use Rattle.number.specs.Data.{read_data}
-use Rattle.reply.specs.Read.{characters_of, read_or_zero, decimal_at}
-use Rattle.reply.proofs.Reader.{characters_long, number_short, five_at}
+use Rattle.std.proofs.lemmas.List.{take_rest}
+use Rattle.reply.specs.Read.{characters_of, read_or_zero}
+use Rattle.reply.proofs.Reader.{characters_long, number_short, number_here}
+use Rattle.reply.proofs.guessing.decimal_at.Goals.{in_default-via-in-Some+then-get-lt5, in_default-via-in_default}
 use Rattle.reply.proofs.guessing.decimal_at.Goals as goal
 
-pub returns-then-bytes-k : goal.returns-then-bytes-k
-returns-then-bytes-k c =
-    let a = c.before.before.args in
-    sym (number_short (characters_of a.bytes.now) a.k (omega (arith, characters_long a.bytes.now, c.if-bytes-k.true)))
+pub returns-in_default : goal.returns-in_default
+returns-in_default c =
+    let a = c.args in
+    (λ j. record { number = c.default.ensures.0 j; decimals = c.default.ensures.1 j })
+    ∙ sym (number_short (characters_of a.bytes.now) a.k (elim c.in_default.branch [
+      | in_default-via-in-Some+then-get-lt5 w ↦ grind (arith, rules, characters_long a.bytes.now)
+      | in_default-via-in_default w ↦ grind (arith, rules, characters_long a.bytes.now)
+    ]))
 
 pub returns : goal.returns
-unfolding decimal_at
 returns c =
-    let r = c.before in
-    let e = r.before in
-    let d = e.before in
-    let g = d.before in
-    let b = g.before in
-    let f = b.before in
-    let a = f.before.before.before.args in
-    let cs = characters_of a.bytes.now in
-    c.read_or_zero.ensures
-    ∙ ap read_or_zero
-    (r.read_data.ensures
-    ∙ ap read_data
-    ((λ j. f.character_at-a.ensures j ∷ b.character_at-b.ensures j ∷ g.character_at-c.ensures j ∷ d.character_at-d.ensures j ∷ e.character_at-e.ensures j ∷ [])
-    ∙ five_at cs a.k (omega (arith, characters_long a.bytes.now, f.before.if-bytes-k.false))))
+    let a = c.args in
+    let r = c.in-Some-len5-up in
+    c.read_or_zero.ensures ∙ ap read_or_zero c.read_data.ensures ∙ number_here a.bytes.now r.field-0.now a.k (r.ensures.lookup.0.2 ∙ take_rest a.bytes.now a.k) r.len_at_least

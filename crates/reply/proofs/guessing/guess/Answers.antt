@@ -15,7 +15,7 @@ returns-then-is_digit c =
     let cs = characters_of f.before.before.args.bytes.now in
     let second = s.before.character_at-second.ensures in
     let tens = s.before.before.digit_of-tens.ensures ∙ ap digit_of f.character_at.ensures in
-    let ones = c.before.digit_of-ones.ensures ∙ ap digit_of second in
+    let ones = c.before.digit_of.ensures ∙ ap digit_of second in
     c.guess_behind.ensures
     ∙ ap₂ (λ (x y : ℕ). guess_behind (get_or cs 0 0) ((x * 10 + y) % 100) (drop 3 cs)) tens ones
     ∙ sym (guess_two cs (ap is_digit (sym second) ∙ sym s.is_digit.ensures ∙ t.if-is_digit.true))
