@@ -84,6 +84,18 @@ empty n zero = refl
 empty zero (suc k) = refl
 empty (suc n) (suc k) = empty n k
 
+-- ---- the first so many of a list
+
+module _ {A : Type 0} (xs : List A) (n : ℕ) (l : n ≤ length xs) where
+  -- the first n from the j-th on
+  pub next_of : (d : A) (j : ℕ) → j < n → drop j (take n xs) ≡ get_or xs j d ∷ drop (j + 1) (take n xs)
+  next_of d j h =
+      rw (add-one j)
+      (drop-cons (take n xs) j d (omega (arith, length-take-le n xs l)) ∙ ap (λ (x : A). x ∷ drop (suc j) (take n xs)) (get_or-take n xs j d h))
+
+  pub none_behind : (j : ℕ) → n ≤ j → drop j (take n xs) ≡ []
+  none_behind j h = let b : length (take n xs) ≤ j = omega (arith, length-take-le n xs l) in drop_of_length-le (take n xs) b
+
 module _ (ss : List Setup) where
   -- so many cards are in it
   pub record Placed (table : List ℕ) (i : ℕ) : Type 0 where

@@ -49,6 +49,12 @@ module _ {A : Type 0} (k : ℕ) where
   parts_some zero xs h = absurd (omega arith)
   parts_some (suc n) xs h = let e : n ≡ suc n - 1 = omega arith in ap (λ (m : ℕ). take k xs ∷ parts k m (drop k xs)) e
 
+  -- one part more
+  pub parts_more : (n : ℕ) (xs : List A) → parts k (suc n) xs ≡ parts k n xs ++ (part_at n xs ∷ [])
+  unfolding parts
+  parts_more zero xs = ap (λ (x : List A). x ∷ []) (sym (first_part xs))
+  parts_more (suc n) xs = ap (λ (l : List (List A)). take k xs ∷ l) (parts_more n (drop k xs) ∙ ap (λ (x : List A). parts k n (drop k xs) ++ (x ∷ [])) (next_part n xs))
+
   -- the i-th part of the code's put back
   abbrev pub put_part : ℕ → List A → List A → List A
   put_part i part xs = take (i * k) xs ++ (part ++ drop (i * k + k - i * k) (drop (i * k) xs))

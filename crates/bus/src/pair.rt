@@ -212,7 +212,11 @@ pub(crate) fn take_all<'a>(
             answering::effect_of(setups[k], offers[k], &index, own, message)
         };
         let Ok(n) = answering::settle(effect, own, out, at) else {
-            break;
+            store_all(&setups[..count], &offers[..count], pending, numbers);
+            return Took {
+                words: taken,
+                bytes: at,
+            };
         };
         offers[k] = effect.offer;
         pending = Pending::new();

@@ -4,7 +4,7 @@ use mathlib.Core.Bool.{true, false, ◌||◌, false≢true}
 use mathlib.Core.List.{List}
 use Prim.Native.Nat.{ℕ, zero, suc, ◌+◌, ◌≤◌}
 use native.Mathlib.Omega.{arith}
-use borrow.Author.Tests.{eqb-true}
+use borrow.Author.Tests.{eqb-true, ne_eqb}
 use lib.Dec.{eqb}
 use lib.IntN.{ℤ}
 use lib.ListN.{length, take, drop}
@@ -17,7 +17,7 @@ use Rattle.sheet.specs.Values.{entry_in, is_readable_entry}
 use Rattle.reply.specs.Reply.{scan_identifier}
 use Rattle.act.specs.declared.Setup.{Setup}
 use Rattle.act.specs.Act.{most_named, names_from}
-use Rattle.card.specs.Refusals.{sound_scan}
+use Rattle.card.specs.Refusals.{no_scan_row, sound_scan}
 
 -- the names from the j-th on are those of the array
 named_in : (s : Setup) (j n : ℕ) → j + n ≤ length s.scan → names_from s j n ≡ take n (drop j s.scan)
@@ -35,15 +35,23 @@ at_most n h =
     (λ t. omega (arith, eqb-true n 5 t))
     (λ v. absurd (false≢true (sym (rw (z, f, v)) ∙ h)))))
 
+-- a scan of another count than 0, 4 or 5 is unsound
+pub other_count : (bench maker : List ℤ) (s : Setup) → (s.count ≡ 0 → ⊥) → (s.count ≡ 4 → ⊥) → (s.count ≡ 5 → ⊥) → sound_scan bench maker s ≡ false
+unfolding sound_scan
+other_count bench maker s a b c =
+    by-test (no_scan_row bench maker)
+    (λ t. rw (t, ne_eqb _ 0 a, ne_eqb _ 4 b, ne_eqb _ 5 c))
+    (λ t. rw t)
+
 module _ (bench maker : List ℤ) (s : Setup) where
   pub with_row : (has_row bench scan_identifier || has_row maker scan_identifier) ≡ true → sound_scan bench maker s ≡ false
   unfolding sound_scan
   with_row h = rw h
 
-  -- a scan of another count than 0, 4 or 5 is unsound
-  pub other_count : (has_row bench scan_identifier || has_row maker scan_identifier) ≡ false → (eqb s.count 0 || eqb s.count 4 || eqb s.count 5) ≡ false → sound_scan bench maker s ≡ false
+  -- the same by the tests of the code
+  pub uncounted : (has_row bench scan_identifier || has_row maker scan_identifier) ≡ false → (eqb s.count 0 || eqb s.count 4 || eqb s.count 5) ≡ false → sound_scan bench maker s ≡ false
   unfolding sound_scan
-  other_count h n = rw (h, n)
+  uncounted h n = rw (h, n)
 
   pub by_names : (has_row bench scan_identifier || has_row maker scan_identifier) ≡ false → (eqb s.count 0 || eqb s.count 4 || eqb s.count 5) ≡ true → length s.scan ≡ most_named
       → sound_scan bench maker s ≡ list_all (λ (i : ℕ). is_readable_entry (entry_in bench maker i)) (take s.count s.scan)

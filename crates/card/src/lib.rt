@@ -93,14 +93,23 @@ impl Card {
     pub fn drop_offer(self) -> Card
         ensures { result ≡ with_both self self.pending None }
     {
-        self.hold(None)
+        Card {
+            offer: None,
+            ..self
+        }
     }
 
     // The card with what a message has left on offer.
     pub fn hold(self, offer: Option<Offer>) -> Card
         ensures { result ≡ with_both self self.pending offer }
     {
-        Card { offer, ..self }
+        match offer {
+            Some(held) => Card {
+                offer: Some(held),
+                ..self
+            },
+            None => self.drop_offer(),
+        }
     }
 }
 
@@ -144,7 +153,7 @@ fn has_readable_row<'a>(sheets: &Sheets<'a>, identifier: u8) -> bool
 }
 
 // The identifiers that a card names for its scan, and `]` without a row.
-#[tactic(auto, using(crate::proofs::Scans::other_count, crate::proofs::Scans::with_row, crate::proofs::Scans::by_names))]
+#[tactic(auto, using(crate::proofs::Scans::uncounted, crate::proofs::Scans::with_row, crate::proofs::Scans::by_names))]
 pub fn sound_scan<'a>(sheets: &Sheets<'a>, setup: Setup) -> bool
     ensures { result ≡ sound_scan sheets.now.bench.now sheets.now.maker.now setup }
 {

@@ -1,5 +1,5 @@
 // A line's fields, and the numbers and the words that they spell.
-ghost use Rattle.std.specs.Prelude.{◌<◌, ◌≤◌, length};
+ghost use Rattle.std.specs.Prelude.{◌≡◌, ◌<◌, ◌≤◌, ◌++◌, length};
 
 // A silence, and a word that every call refuses.
 const SILENCE: u16 = 256;
@@ -90,14 +90,18 @@ fn word_of(part: &[u8]) -> u16 {
     }
 }
 
-// The first character, or what stands in the braces that open there, and what is behind.
+// The first character, or what stands in the braces that open there, and what is behind. Only for `{` is its end looked for.
 fn split_part(text: &[u8]) -> (&[u8], &[u8])
     requires { 0 < length text.now }
+    ensures { (result.0.now ++ result.1.now ≡ text.now) × (0 < length result.0.now) }
 {
-    let end = match text.iter().position(|c| *c == b'}') {
-        Some(at) if text[0] == b'{' => at + 1,
-        None if text[0] == b'{' => text.len(),
-        _ => 1,
+    let end = if text[0] == b'{' {
+        match text.iter().position(|c| *c == b'}') {
+            Some(at) => at + 1,
+            None => text.len(),
+        }
+    } else {
+        1
     };
     text.split_at(end)
 }

@@ -1,9 +1,10 @@
 -- The decimal digits of a number, by the quotient and the remainder by ten, and how many there are. So a loop that puts the
 -- remainders by ten before a text, from the last to the first, puts the digits. Assumes nothing.
-use Rattle.std.proofs.Common.{◌≡◌, ℕ, zero, suc, ◌+◌, ◌/◌, ◌%◌, ◌^◌, ◌<◌, ◌≤◌, ltb, List, [], ◌∷◌, ◌++◌, length, sym, refl, ap, ◌∙◌, append_assoc, not-suc-le-zero, pow-suc, arith, length-append, ltb-false, ltb-true, le-ltb, lt-ltb}
+use Rattle.std.proofs.Common.{◌≡◌, ℕ, zero, suc, ◌+◌, ◌-◌, ◌/◌, ◌%◌, ◌^◌, ◌<◌, ◌≤◌, ltb, List, [], ◌∷◌, ◌++◌, length, drop, set, sym, refl, ap, ◌∙◌, append_assoc, not-suc-le-zero, pow-suc, arith, length-append, length-set, ltb-false, ltb-true, le-ltb, lt-ltb}
 use Rattle.refusal.proofs.Logic.{by-test}
 use Rattle.number.specs.Data.{digit}
 use Rattle.listing.specs.Line.{decimal_in, decimal}
+use Rattle.listing.proofs.Texts.{set_front}
 
 -- ---- by the quotient and the remainder
 
@@ -61,11 +62,49 @@ wide_length n h = decimal_length 19 n (omega arith)
 
 -- ---- put before a text, from the last digit to the first
 
-pub last_digit : (n : ℕ) (text : List ℕ) → 9 < n → decimal (n / 10) ++ ((48 + n % 10) ∷ text) ≡ decimal n ++ text
-unfolding digit
-last_digit n text h =
-    sym (append_assoc (decimal (n / 10)) ((48 + n % 10) ∷ []) text) ∙ ap (λ (l : List ℕ). l ++ text) (sym (decimal_many n h))
+-- a loop that puts the digits of n before a text that stood from a place on: the digits of `rest` are still to be put
+pub record Putting (n from : ℕ) (was : List ℕ) (rest at : ℕ) (is : List ℕ) : Type 0 where
+  pub long : length is ≡ length was
+  pub within : at ≤ from
+  pub begins : at + length (decimal n) ≡ from + length (decimal rest)
+  pub stands : decimal rest ++ drop at is ≡ decimal n ++ drop from was
 
-pub first_digit : (n : ℕ) (text : List ℕ) → n ≤ 9 → (48 + n) ∷ text ≡ decimal n ++ text
-unfolding digit
-first_digit n text h = ap (λ (l : List ℕ). l ++ text) (sym (decimal_few n (omega arith)))
+pub putting_starts : (n from : ℕ) (was : List ℕ) → Putting n from was n from was
+putting_starts n from was = record { long = refl; within = omega arith; begins = refl; stands = refl }
+
+module _ (n from : ℕ) (was : List ℕ) (rest at : ℕ) (is : List ℕ) (p : Putting n from was rest at is) (wide : n < 2 ^ 64) (enough : 20 ≤ from) (ends : from ≤ length was) where
+  pub putting_room : (length (decimal rest) ≤ at) × (1 ≤ at) × (at ≤ length is)
+  putting_room =
+      let r : length (decimal rest) ≤ at = omega (arith, wide_length n wide, p.begins) in
+      (r, omega (arith, decimal_some rest), omega (arith, p.within, p.long))
+
+  -- one digit
+  pub putting_more : 9 < rest → Putting n from was (rest / 10) (at - 1) (set is (at - 1) (48 + rest % 10))
+  unfolding digit
+  putting_more h =
+      let l = ap length (decimal_many rest h) ∙ length-append (decimal (rest / 10)) ((48 + rest % 10) ∷ []) in
+      let r = putting_room in
+      let g : at - 1 + 1 ≡ at = omega (arith, r.1) in
+      record {
+        long = length-set is (at - 1) (48 + rest % 10) ∙ p.long;
+        within = omega (arith, p.within);
+        begins = omega (arith, r.1, p.begins);
+        stands =
+            ap (λ (x : List ℕ). decimal (rest / 10) ++ x)
+            (set_front is (at - 1) (48 + rest % 10) (omega (arith, r.1, r.2)) ∙ ap (λ (k : ℕ). (48 + rest % 10) ∷ drop k is) g)
+            ∙ sym (append_assoc (decimal (rest / 10)) ((48 + rest % 10) ∷ []) (drop at is))
+            ∙ ap (λ (x : List ℕ). x ++ drop at is) (sym (decimal_many rest h))
+            ∙ p.stands;
+      }
+
+  -- the first digit
+  pub putting_ends : rest ≤ 9 → drop (at - 1) (set is (at - 1) (48 + rest)) ≡ decimal n ++ drop from was
+  unfolding digit
+  putting_ends h =
+      let d : decimal rest ≡ (48 + rest) ∷ [] = decimal_few rest (omega arith) in
+      let r = putting_room in
+      let g : at - 1 + 1 ≡ at = omega (arith, r.1) in
+      set_front is (at - 1) (48 + rest) (omega (arith, r.1, r.2))
+      ∙ ap (λ (k : ℕ). (48 + rest) ∷ drop k is) g
+      ∙ ap (λ (x : List ℕ). x ++ drop at is) (sym d)
+      ∙ p.stands

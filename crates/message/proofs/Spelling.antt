@@ -3,12 +3,13 @@
 use mathlib.Core.Path.{◌≡◌, refl, sym, ap, ◌∙◌}
 use mathlib.Core.Bool.{true, false, not}
 use mathlib.Core.List.{List, [], ◌∷◌, ◌++◌}
-use Prim.Native.Nat.{ℕ, ◌+◌, ◌/◌, ◌%◌, ◌<◌, ◌≤◌}
+use Prim.Native.Nat.{ℕ, ◌+◌, ◌-◌, ◌/◌, ◌%◌, ◌<◌, ◌≤◌}
 use Prim.Native.Char.{code}
 use native.Mathlib.Omega.{arith}
 use borrow.Author.Tests.{leb-true, le-leb, lt-leb, lt-ltb}
+use borrow.Rule.Slice.PartMut.{put_mid}
 use lib.Dec.{leb, lit<, lit≤}
-use lib.ListN.{length, set, length-append}
+use lib.ListN.{length, get_or, set, length-append}
 use Rattle.refusal.proofs.Logic.{choice, is_not}
 use Rattle.refusal.proofs.Lists.{Each, each_append, each_as}
 use Rattle.refusal.specs.Refusal.{gave}
@@ -20,7 +21,9 @@ use Rattle.refusal.specs.declared.Refusal.TheVariants.{NotMessage}
 use Rattle.wire.specs.declared.Line.{Line}
 use Rattle.wire.specs.Word.{with_parity, travelling}
 use Rattle.wire.specs.Inner.{longest_message, empty, put, puts, line_of, bytes_of}
-use Rattle.wire.proofs.Lines.{puts_append, puts_empty, line_bytes}
+use Rattle.refusal.proofs.Buffers.{copied_placed}
+use Rattle.wire.proofs.Words.{travelling_length}
+use Rattle.wire.proofs.Lines.{puts_append, puts_empty, puts_placed, line_bytes}
 use Rattle.number.specs.declared.Numeral.{Numeral}
 use Rattle.number.specs.Data.{digit, spell_numeral}
 use Rattle.number.proofs.Digits.{digit_is, AllDigits, numeral_length, numeral_digits}
@@ -31,6 +34,7 @@ use Rattle.message.specs.declared.Kind.TheVariants.{Sign, Data}
 use Rattle.message.specs.declared.Message.{Message}
 use Rattle.message.specs.Message.{star, is_address, is_message}
 use Rattle.message.specs.Spell.{spell_address, kind_of, spell_kind, spell_body, spell_open, spell, write_call}
+use Rattle.message.proofs.Places.{five_are}
 use Rattle.message.proofs.Messages.{Parts, PlainChar, Plain, plain_letter, plain_digit, plain_identifier, address_most}
 
 -- ---- its characters
@@ -173,6 +177,20 @@ puts_five l a b c d e pv pw px py pz h =
       lt-ltb (n + 1 + 1 + 1) longest_message (omega arith),
       lt-ltb (n + 1 + 1 + 1 + 1) longest_message (omega arith),
     ))
+
+-- five characters as they travel, each by itself
+pub five_sent : (ds : List ℕ) {v w x y z : ℕ} → length ds ≡ 5 → v ≡ with_parity (get_or ds 0 0) → w ≡ with_parity (get_or ds 1 0) → x ≡ with_parity (get_or ds 2 0)
+    → y ≡ with_parity (get_or ds 3 0) → z ≡ with_parity (get_or ds 4 0) → v ∷ w ∷ x ∷ y ∷ z ∷ [] ≡ travelling ds
+unfolding travelling
+five_sent ds n pv pw px py pz = (λ j. pv j ∷ pw j ∷ px j ∷ py j ∷ pz j ∷ []) ∙ ap travelling (five_are ds n)
+
+-- five characters more, where there is room for them, in a part of the array at once
+pub put_at_once : (l : Line) (ds bs : List ℕ) → length ds ≡ 5 → bs ≡ travelling ds → l.len ≤ 6 → length l.bytes ≡ longest_message
+    → record { bytes = put_mid l.len (l.len + 5 - l.len) l.bytes bs; len = l.len + 5 } ≡ puts l ds
+put_at_once l ds bs n e h b =
+    let p = copied_placed (travelling ds) l.len (l.len + 5 - l.len) l.bytes bs e (omega (arith, travelling_length ds, n)) in
+    let k : l.len + 5 ≡ l.len + length ds = omega (arith, n) in
+    (λ j. record { bytes = p j; len = k j }) ∙ puts_placed ds l b (omega (arith, n))
 
 -- ---- the call
 

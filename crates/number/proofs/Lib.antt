@@ -3,6 +3,7 @@ pub mod Digits
 pub mod Reading
 pub mod Several
 pub mod Cuts
+pub mod Remainder
 pub mod Cases
 pub mod Products
 pub mod Pairs

@@ -1,10 +1,11 @@
 -- The four characters of a number of four digits, made from its two pairs of digits at once: what each of the numbers is that the code makes
 -- on its way (`Products`). Division by 100 and by 10 is a product and a shift, right for as many digits as there are. Assumes nothing.
-use mathlib.Core.Path.{◌≡◌, ap, ap₂, ◌∙◌}
+use mathlib.Core.Path.{◌≡◌, sym, ap, ap₂, ◌∙◌}
 use mathlib.Core.List.{List, [], ◌∷◌}
 use Prim.Native.Nat.{ℕ, ◌+◌, ◌*◌, ◌/◌, ◌%◌, ◌≤◌, ◌<◌, ◌^◌}
 use native.Mathlib.Omega.{arith}
 use lib.Bits.{bit_and, and_block, and_mask}
+use lib.ListN.{take}
 use mir.Syntax.{w32}
 use Rattle.std.specs.Int.{to_le_bytes}
 use Rattle.number.specs.Data.{digit, five_digits}
@@ -98,17 +99,18 @@ bytes_are m k h =
     let e : k ≡ k % 10 = omega arith in
     cc (and_mask n 8, and_mask (n / 2 ^ 8) 8, and_mask (n / 2 ^ 16) 8, f.0, f.1, f.2, f.3, e)
 
--- the same by the library's bytes of a number, as the code takes them
-le_bytes : (a b c d : ℕ) → a ≤ 255 → b ≤ 255 → c ≤ 255 → d ≤ 255
-    → to_le_bytes w32 (a + b * 256 + c * 65536 + d * 16777216) ≡ a ∷ b ∷ c ∷ d ∷ []
-le_bytes a b c d ha hb hc hd =
-    let n = a + b * 256 + c * 65536 + d * 16777216 in
-    let e : n % 256 ≡ a = omega arith in
-    let f : n / 256 ^ 1 % 256 ≡ b = omega arith in
-    let g : n / 256 ^ 2 % 256 ≡ c = omega arith in
-    let h : n / 256 ^ 3 % 256 ≡ d = omega arith in
-    cc (e, f, g, h)
+-- the library's bytes of a number of 32 bits are those
+le_bytes : (n : ℕ) → n < 2 ^ 32 → to_le_bytes w32 n ≡ bit_and n 255 ∷ bit_and (n / 2 ^ 8) 255 ∷ bit_and (n / 2 ^ 16) 255 ∷ (n / 2 ^ 24) ∷ []
+le_bytes n h =
+    let e : n % 256 ≡ bit_and n 255 = sym (and_mask n 8) in
+    let f : n / 256 ^ 1 % 256 ≡ bit_and (n / 2 ^ 8) 255 = sym (and_mask (n / 2 ^ 8) 8) in
+    let g : n / 256 ^ 2 % 256 ≡ bit_and (n / 2 ^ 16) 255 = sym (and_mask (n / 2 ^ 16) 8) in
+    let k : n / 256 ^ 3 % 256 ≡ n / 2 ^ 24 = omega arith in
+    cc (e, f, g, k)
 
+-- as the code takes them: the four of `bytes_are` before the code
 pub le_bytes_are : (m : ℕ) → to_le_bytes w32 (characters m) ≡ digit (m / 10 / 10 / 10 % 10) ∷ digit (m / 10 / 10 % 10) ∷ digit (m / 10 % 10) ∷ digit (m % 10) ∷ []
-unfolding characters
-le_bytes_are m = le_bytes _ _ _ _ (digit_byte (m / 10 / 10 / 10)) (digit_byte (m / 10 / 10)) (digit_byte (m / 10)) (digit_byte m)
+unfolding characters five_digits
+le_bytes_are m =
+    le_bytes (characters m) (omega (arith, digit_byte (m / 10 / 10 / 10), digit_byte (m / 10 / 10), digit_byte (m / 10), digit_byte m))
+    ∙ ap (take 4) (bytes_are m 0 (omega arith))

@@ -99,6 +99,9 @@ pub nat_abs_rem : (x step : ℤ) → nat_abs (rem_z x step) ≡ nat_abs x % nat_
 nat_abs_rem (pos a) step = refl
 nat_abs_rem (negsuc a) step = nat_abs_minus (pos (suc a % nat_abs step))
 
+pub rem_small : (x step : ℤ) → nat_abs (rem_z x step) ≤ nat_abs x
+rem_small x step = omega (arith, nat_abs_rem x step, mod-le (nat_abs x) (nat_abs step))
+
 pub rem_fits : (x step : ℤ) → SFits w32 x → SFits w32 (rem_z x step)
 rem_fits (pos a) step f = fits_pos (omega (arith, mod-le a (nat_abs step), f.sfits))
 rem_fits (negsuc a) step f = fits_neg (suc a % nat_abs step) (omega (arith, mod-le (suc a) (nat_abs step), f.sfits))

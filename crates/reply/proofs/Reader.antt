@@ -11,7 +11,7 @@ use borrow.Author.Tests.{eqb-true, eq-eqb, ne_eqb}
 use lib.Dec.{leb, eqb, lit<}
 use lib.IntN.{ℤ, pos, negsuc, nat_abs}
 use lib.ListN.{length, get_or, take, drop, length-append, length-take, length-drop, length-map, get_or-map, get_or-eq_default}
-use lib.Seq.{get_or-drop, get_or-append-add, drop-drop}
+use lib.Seq.{get_or-take, get_or-drop, get_or-append-add, drop-drop}
 use borrow.Author.Rules.{rules}
 use Rattle.std.proofs.Common.{Bor}
 use Rattle.std.specs.Prelude.{Option, Some, None}
@@ -37,6 +37,7 @@ use Rattle.number.proofs.Reading.{read_number, read_length}
 use Rattle.number.proofs.Several.{all_length, first_data, nth, each_read}
 use Rattle.message.specs.Message.{star, question, is_letter, is_address, is_identifier}
 use Rattle.message.specs.Spell.{spell_address}
+use Rattle.message.proofs.Places.{five_are}
 use Rattle.message.proofs.Messages.{address_most, identifier_no_digit}
 use Rattle.message.proofs.Spelling.{Small, plain_small}
 use Rattle.reply.specs.declared.Mark.{Mark}
@@ -315,6 +316,17 @@ number_here bs (a ∷ []) k h l = absurd (omega arith)
 number_here bs (a ∷ b ∷ []) k h l = absurd (omega arith)
 number_here bs (a ∷ b ∷ c ∷ []) k h l = absurd (omega arith)
 number_here bs (a ∷ b ∷ c ∷ d ∷ []) k h l = absurd (omega arith)
+
+-- five characters, one after the other
+pub five_at : (cs : List ℕ) (k : ℕ) → k + 5 ≤ length cs
+    → get_or cs k 0 ∷ get_or cs (k + 1) 0 ∷ get_or cs (k + 2) 0 ∷ get_or cs (k + 3) 0 ∷ get_or cs (k + 4) 0 ∷ [] ≡ take 5 (drop k cs)
+five_at cs k h =
+    let z : k ≡ k + 0 = omega arith in
+    let l : length (take 5 (drop k cs)) ≡ 5 = omega (arith, length-take 5 (drop k cs), length-drop k cs) in
+    (λ j. (ap (λ (i : ℕ). get_or cs i 0) z ∙ its 0 (lit< tt)) j ∷ its 1 (lit< tt) j ∷ its 2 (lit< tt) j ∷ its 3 (lit< tt) j ∷ its 4 (lit< tt) j ∷ []) ∙ five_are (take 5 (drop k cs)) l
+  where
+    its : (i : ℕ) → i < 5 → get_or cs (k + i) 0 ≡ get_or (take 5 (drop k cs)) i 0
+    its i h = character_behind cs k i ∙ sym (get_or-take 5 (drop k cs) i 0 h)
 
 -- a number from k on, by its place among all characters
 number_behind : (cs : List ℕ) (k j : ℕ) → decimal_at cs (k + j) ≡ decimal_at (drop k cs) j

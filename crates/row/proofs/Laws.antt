@@ -20,6 +20,7 @@ use Rattle.card.specs.declared.Card.{Card}
 use Rattle.row.specs.Row.{is_byte, byte_of, bytes_in, setup_of, is_exactly, offer_of, pending_row, offer_row, changing, stored_in}
 use Rattle.std.specs.Prelude.{None, Option, Some}
 use Rattle.act.specs.declared.Offer.{Offer}
+use Rattle.act.specs.Act.{held}
 
 -- ---- bytes read from a row
 
@@ -56,11 +57,37 @@ pub scan_bytes : (row : List ℤ) → bytes_in 5 (drop 17 row) ≡ byte_of (at r
 unfolding bytes_in
 scan_bytes row = rw (bytes_next row 4 17, bytes_next row 3 18, bytes_next row 2 19, bytes_next row 1 20, bytes_next row 0 21)
 
+-- a list over the whole of a buffer
+pub placed_whole : (xs out : List ℕ) → length out ≤ length xs → placed xs 0 out ≡ xs
+unfolding laid
+placed_whole xs out h = placed-front xs out ∙ ap (λ (l : List ℕ). xs ++ l) (drop_of_length-le out h) ∙ append-nil xs
+
 -- the setup by the numbers at its places
 pub setup_same : (row row' : List ℤ) → at row 0 ≡ at row' 0 → at row 1 ≡ at row' 1 → ((k : ℕ) → at row (16 + k) ≡ at row' (16 + k)) → setup_of row ≡ setup_of row'
 unfolding setup_of
 setup_same row row' l a h =
     simp (l, a, h 0, scan_bytes row, scan_bytes row', h 1, h 2, h 3, h 4, h 5, h 6)
+
+-- ---- an offer by its three numbers, any numbers
+
+module _ (m i z : ℤ) where
+  abbrev pub is_none : Bool
+  is_none = is_exactly 0 m && is_exactly 0 i && is_exactly 0 z
+
+  abbrev pub is_marked : Bool
+  is_marked = is_exactly 1 m && is_byte i
+
+  pub offer_none : is_none ≡ true → offer_of m i z ≡ None
+  unfolding offer_of
+  offer_none e = rw e
+
+  pub offer_marked : is_none ≡ false → is_marked ≡ true → offer_of m i z ≡ held (byte_of i) z
+  unfolding offer_of
+  offer_marked e f = rw (e, f)
+
+  pub offer_other : is_none ≡ false → is_marked ≡ false → offer_of m i z ≡ held 0 (pos 0)
+  unfolding offer_of
+  offer_other e f = rw (e, f)
 
 -- ---- a card stored back
 

@@ -115,6 +115,7 @@ fn offer_of(mark: i32, identifier: i32, value: i32) -> Option<Offer>
 
 // The card that the numbers are.
 #[tactic(auto, unfolding(crate::specs::Row::card_of))]
+#[inline(always)]
 pub fn card_of(row: &[i32]) -> Card
     ensures { result ≡ card_of row.now }
 {

@@ -254,3 +254,23 @@ module _ (s : List ℤ) {rs : List (List ℤ)} {n : ℕ} {b : Bool} (p : rs ≡ 
       (λ v. rw (r, lt-leb (length rs) 64 (ltb-true 64 (length rs) v)) refl)
       (λ v. absurd (false≢true (rw (v, e, u) at t))))
       (λ u. rw (rows_left s (λ (z : length s % 6 ≡ 0). eqb-false n 0 u (q ∙ z)) (pos 0)) (sym (and_false _)))
+
+-- ---- the count of rows, by that of numbers
+
+counts : (s : List ℤ) → (length s ≤ length (rows s) * 6) × (length (rows s) * 6 ≤ length s + 5)
+unfolding rows
+counts [] = (omega arith, omega arith)
+counts (a ∷ []) = (omega arith, omega arith)
+counts (a ∷ b ∷ []) = (omega arith, omega arith)
+counts (a ∷ b ∷ c ∷ []) = (omega arith, omega arith)
+counts (a ∷ b ∷ c ∷ d ∷ []) = (omega arith, omega arith)
+counts (a ∷ b ∷ c ∷ d ∷ e ∷ []) = (omega arith, omega arith)
+counts (a ∷ b ∷ c ∷ d ∷ e ∷ f ∷ s) = let r = counts s in (omega arith, omega arith)
+
+pub sheet_long : (s : List ℤ) → 384 < length s → false ≡ sound_sheet s
+unfolding sound_sheet
+sheet_long s h = rw (lt-leb (length (rows s)) 64 (omega (arith, (counts s).0)))
+
+pub sheet_short : (s : List ℤ) → length s ≤ 384 → sound_rows (pos 0) (rows s) ≡ sound_sheet s
+unfolding sound_sheet
+sheet_short s h = rw (le-leb (length (rows s)) 64 (omega (arith, (counts s).1)))

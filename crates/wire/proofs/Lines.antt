@@ -5,11 +5,11 @@ use Prim.Native.Nat.{ℕ, suc, ◌+◌, ◌<◌, ◌≤◌, min}
 use native.Mathlib.Numerals.{add-one}
 use native.Mathlib.Omega.{arith}
 use borrow.Author.Tests.{lt-ltb}
-use lib.ListN.{length, get_or, take, drop, set, replicate, length-append, length-take, take-append-drop}
+use lib.ListN.{length, get_or, take, drop, set, replicate, length-append, length-set, length-take, take-append-drop}
 use lib.Seq.{drop-cons, set_at, append_snoc, take-append_seam}
-use Rattle.refusal.specs.Buffer.{laid}
+use Rattle.refusal.specs.Buffer.{laid, placed}
 use Rattle.refusal.specs.Call.{Call, writes, place_call}
-use Rattle.refusal.proofs.Buffers.{laid_length}
+use Rattle.refusal.proofs.Buffers.{laid_length, placed_nothing, placed_both, placed_one}
 use Rattle.refusal.proofs.Calls.{placed_writes}
 use Rattle.std.specs.List.{fold}
 use Rattle.wire.specs.Word.{with_parity, travelling}
@@ -53,10 +53,34 @@ puts_line cs (d ∷ ds) h =
 pub puts_empty : (cs : List ℕ) → length cs ≤ longest_message → puts empty cs ≡ line_of cs
 puts_empty cs h = ap (λ (l : Line). puts l cs) empty_line ∙ puts_line [] cs (omega arith)
 
+put_room : (l : Line) (c : ℕ) → l.len < longest_message → put l c ≡ record { bytes = set l.bytes l.len (with_parity c); len = l.len + 1 }
+unfolding put
+put_room l c h = rw (lt-ltb l.len longest_message h)
+
 pub puts_append : (l : Line) (cs ds : List ℕ) → puts l (cs ++ ds) ≡ puts (puts l cs) ds
 unfolding puts
 puts_append l [] ds = refl
 puts_append l (c ∷ cs) ds = puts_append (put l c) cs ds
+
+-- with room for all of them: the bytes that travel, in their places at once
+pub puts_placed : (cs : List ℕ) (l : Line) → length l.bytes ≡ longest_message → l.len + length cs ≤ longest_message
+    → record { bytes = placed (travelling cs) l.len l.bytes; len = l.len + length cs } ≡ puts l cs
+unfolding puts travelling
+puts_placed [] l e h =
+    let p : placed (travelling []) l.len l.bytes ≡ l.bytes = placed_nothing l.len l.bytes in
+    let n : l.len + length (travelling []) ≡ l.len = omega arith in
+    λ j. record { bytes = p j; len = n j }
+puts_placed (c ∷ cs) l e h =
+    let x = with_parity c in
+    let m : Line = record { bytes = set l.bytes l.len x; len = l.len + 1 } in
+    let p : placed (x ∷ travelling cs) l.len l.bytes ≡ placed (travelling cs) (l.len + 1) m.bytes
+    = sym (placed_both (x ∷ []) l.len l.bytes (omega (arith, e)) (travelling cs))
+    ∙ ap (λ (b : List ℕ). placed (travelling cs) (l.len + 1) b) (sym (placed_one x l.len l.bytes (omega (arith, e)))) in
+    let q : put l c ≡ m = put_room l c (omega arith) in
+    let n : l.len + length (c ∷ cs) ≡ l.len + 1 + length cs = omega arith in
+    (λ j. record { bytes = p j; len = n j })
+    ∙ puts_placed cs m (length-set l.bytes l.len x ∙ e) (omega arith)
+    ∙ ap (λ (k : Line). puts k cs) (sym q)
 
 -- the same as a fold
 fold_puts : (l : Line) (cs : List ℕ) → fold put l cs ≡ puts l cs
@@ -101,6 +125,9 @@ bytes_count l e = omega (arith, length-take l.len l.bytes)
 pub counted_within : (l : Line) (n : ℕ) → n ≡ length (bytes_of l) → n ≤ length l.bytes
 unfolding bytes_of
 counted_within l n e = omega (arith, length-take l.len l.bytes)
+
+pub bytes_fit : (l : Line) → length (bytes_of l) ≤ length l.bytes
+bytes_fit l = counted_within l (length (bytes_of l)) refl
 
 -- what is placed at the front of a buffer is what the line holds
 pub counted_written : (l : Line) (n : ℕ) (out : List ℕ) (c : Call) → n ≡ length (bytes_of l) → c ≡ place_call (take n l.bytes) 0 out → c ≡ writes [] (bytes_of l) out

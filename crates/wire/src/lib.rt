@@ -70,14 +70,18 @@ impl Line {
 
     // One character more, in good parity; a full line stays as it is.
     #[tactic(auto, unfolding(crate::specs::Inner::put))]
-    pub fn put(mut self, character: u8) -> Line
+    pub fn put(self, character: u8) -> Line
         ensures { result ≡ put self character }
     {
-        if self.len < LONGEST_MESSAGE {
-            self.bytes[self.len] = with_parity(character);
-            self.len += 1;
+        let Line { mut bytes, len } = self;
+        if LONGEST_MESSAGE <= len {
+            return self;
         }
-        self
+        bytes[len] = with_parity(character);
+        Line {
+            bytes,
+            len: len + 1,
+        }
     }
 
     // These characters more, one after the other.
